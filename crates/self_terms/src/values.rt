@@ -1,0 +1,17 @@
+// Values, and the numbers of bodies and maps.
+
+/// The number of a method's or block's body, from 1 in the order of opening tokens.
+#[derive(Clone, Copy, PartialEq, Eq, Debug)]
+pub struct BodyId(pub u32);
+
+/// The number of a map. `MapId(0)` is that of the integers.
+#[derive(Clone, Copy, PartialEq, Eq, Debug)]
+pub struct MapId(pub u32);
+
+/// An integer within 30 bits, an object by its number, or a block: its body and the activation that made it.
+#[derive(Clone, Copy, PartialEq, Eq, Debug)]
+pub enum Value {
+    Int(i32),
+    Object(u32),
+    Block { body: BodyId, maker: u64 },
+}
