@@ -23,3 +23,11 @@ WriteTakes old new result piece = MatchResult result (λ n. Takes old new (take 
 -- Some front of these bytes was taken.
 abbrev pub TakesFront : Option (List ℕ) → Option (List ℕ) → List ℕ → Type 0
 TakesFront old new bytes = (n : ℕ) × (n ≤ length bytes) × Takes old new (take n bytes)
+
+-- The number after this one; a 64-bit counter stays at its last value.
+abbrev pub next_count : ℕ → ℕ
+next_count n = min (n + 1) (2 ^ 64 - 1)
+
+-- A count that each failed call raises, and no other call.
+abbrev pub CountsFault : {T E : Type 0} → ℕ → ℕ → Result T E → Type 0
+CountsFault before now result = MatchResult result (λ _. now ≡ before) (λ _. now ≡ next_count before)

@@ -6,8 +6,17 @@
 // end; what is written is taken whole, or, after a failure, a front of it.
 #![tactic(auto)]
 
+mod copying;
+mod memory;
+mod named;
 mod ports;
 mod reading;
+mod sure;
+mod system;
 
+pub use memory::{MemSink, MemSource};
+pub use named::{MemFiles, NamedFile, SureFiles};
 pub use ports::{Failed, Files, Sink, Source};
 pub use reading::{ReadErr, read_all, read_file, write_all};
+pub use sure::{SureSink, SureSource};
+pub use system::{StdFiles, StdSink, StdSource};
