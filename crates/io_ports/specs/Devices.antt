@@ -1,5 +1,6 @@
 -- The devices in memory, as their users see them.
-use Rattle.std.specs.Prelude.{ℕ, ◌+◌, List, ◌++◌, length, nat_le, Option, Some, None, option_and_then, if◌then◌else◌}
+use Rattle.std.specs.Prelude.{ℕ, ◌+◌, List, ◌++◌, length, nat_le, nat_eq, Option, Some, None, option_and_then, if◌then◌else◌}
+use Rattle.std.specs.Cmp.Lexicographic.{pointwise}
 
 -- A source: the bytes that are left, the numbers of the calls that fail, counted from 1, how many calls were made, and
 -- how many of them failed.
@@ -34,3 +35,13 @@ pub record FilesState : Type 0 where
   pub faults : List ℕ
   pub fails : List ℕ
   pub calls : ℕ
+
+-- Two counts of faults, one for this name and one for all others.
+pub record NameCounts : Type 0 where
+  pub name : List ℕ
+  pub faults : ℕ
+  pub other_faults : ℕ
+
+-- The count of a name.
+abbrev pub count_for : NameCounts → List ℕ → ℕ
+count_for counts name = if pointwise nat_eq name counts.name then counts.faults else counts.other_faults

@@ -1,5 +1,5 @@
 -- What a read at a place of a named file gives.
-use Rattle.std.specs.Prelude.{◌≡◌, ℕ, ◌<◌, ◌≤◌, List, [], length, take, drop, Option, Some, None, Result, IfOk, nat_eq, position, unwrap_or, slice_get, slice_index, if◌then◌else◌}
+use Rattle.std.specs.Prelude.{◌≡◌, ℕ, ◌<◌, ◌≤◌, List, [], length, take, drop, Option, Some, None, Result, IfOk, nat_eq, position, unwrap_or, slice_get, slice_index}
 use Rattle.std.specs.Option.{option_map}
 use Rattle.std.specs.Cmp.Lexicographic.{pointwise}
 
@@ -19,7 +19,3 @@ bytes_named files name = option_map (λ file. file.1) (slice_get files (place_na
 -- The count at the place of this name.
 abbrev pub count_named : List (List ℕ × List ℕ) → List ℕ → List ℕ → ℕ
 count_named files counts name = slice_index counts (place_named files name)
-
--- Of two counts, one for this name and one for all others, that of a name.
-abbrev pub count_for : List ℕ → ℕ → ℕ → List ℕ → ℕ
-count_for named count other name = if pointwise nat_eq named name then count else other

@@ -142,7 +142,6 @@ impl Files for MemFiles {
         requires { at ≤ 1048576 }
         ensures bound { ReadsAtMost result into.new }
         ensures bytes { ReadsAt (bytes_named self.old.files name.now) at result into.new }
-        ensures same { (n : List ℕ) → bytes_named self.new.files n ≡ bytes_named self.old.files n }
         ensures cause { HasCause (count_named self.old.files self.old.faults name.now) (count_named self.new.files self.new.faults name.now) result }
         ensures later { (n : List ℕ) → count_named self.old.files self.old.faults n ≤ count_named self.new.files self.new.faults n }
 
@@ -197,9 +196,6 @@ impl Files for SureFiles {
         requires { at ≤ 1048576 }
         ensures bound { ReadsAtMost result into.new }
         ensures bytes { ReadsAt (Some (unwrap_or (bytes_named self.old name.now) [])) at result into.new }
-        ensures same { (n : List ℕ) → Some (unwrap_or (bytes_named self.new n) []) ≡ Some (unwrap_or (bytes_named self.old n) []) }
-        ensures cause { HasCause 0 0 result }
-        ensures later { (n : List ℕ) → 0 ≤ 0 }
 
         // It gives all that fits.
         ensures whole { result ≡ Ok (min (length into.new) (length (drop at (unwrap_or (bytes_named self.old name.now) [])))) }

@@ -52,7 +52,6 @@ impl Source for SureSource {
     fn read(&mut self, into: &mut [u8]) -> Result<usize, Failed>
         ensures bound { ReadsAtMost result into.new }
         ensures bytes { ReadConsumes (Some self.old) (Some self.new) result into.new }
-        ensures cause { HasCause 0 0 result }
 
         // It gives all that fits.
         ensures whole { result ≡ Ok (min (length into.new) (length self.old)) }
@@ -116,7 +115,6 @@ impl Sink for SureSink {
         ensures bound { WritesAtMost result piece.now }
         ensures some { IfOk result (λ n. 0 < length piece.now → 0 < n) }
         ensures bytes { WriteTakes self.old.taken self.new.taken result piece.now }
-        ensures cause { HasCause 0 0 result }
 
         // It answers the whole length, and tells as long as all pieces fitted.
         ensures whole { result ≡ Ok (length piece.now) }
