@@ -20,3 +20,6 @@ pub use ports::{Failed, Files, Sink, Source};
 pub use reading::{ReadErr, read_all, read_file, write_all};
 pub use sure::{SureSink, SureSource};
 pub use system::{StdFiles, StdSink, StdSource};
+
+#[cfg(test)]
+mod tests;
