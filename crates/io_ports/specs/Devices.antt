@@ -1,6 +1,7 @@
 -- The devices in memory, as their users see them.
 use Rattle.std.specs.Prelude.{ℕ, ◌+◌, List, ◌++◌, length, nat_le, nat_eq, Option, Some, None, option_and_then, if◌then◌else◌}
 use Rattle.std.specs.Cmp.Lexicographic.{pointwise}
+use Rattle.io_ports.specs.Causes.{next_count}
 
 -- A source: the bytes that are left, the numbers of the calls that fail, counted from 1, how many calls were made, and
 -- how many of them failed.
@@ -45,3 +46,10 @@ pub record NameCounts : Type 0 where
 -- The count of a name.
 abbrev pub count_for : NameCounts → List ℕ → ℕ
 count_for counts name = if pointwise nat_eq name counts.name then counts.faults else counts.other_faults
+
+-- The counts after a fault of a name.
+abbrev pub raised_for : NameCounts → List ℕ → NameCounts
+raised_for counts name =
+    if pointwise nat_eq name counts.name
+    then record counts { faults = next_count counts.faults }
+    else record counts { other_faults = next_count counts.other_faults }

@@ -1,10 +1,10 @@
 // Several files in memory, by their names.
-ghost use Rattle.std.specs.Prelude.{◌≡◌, ◌≤◌, ◌<◌, ◌+◌, ◌↔◌, ◌⊎◌, List, ℕ, Option, Some, [], length, min, drop, IfOk, IsErr, IsNone, Contains, replicate, string_bytes, unwrap_or, position, nat_eq, slice_index};
+ghost use Rattle.std.specs.Prelude.{◌≡◌, ◌≤◌, ◌<◌, ◌+◌, ◌↔◌, ◌⊎◌, List, ℕ, Option, Some, [], length, min, drop, IfOk, IsErr, IsNone, MatchResult, Contains, replicate, string_bytes, unwrap_or, position, nat_eq, slice_index};
 ghost use Rattle.std.specs.Option.{option_copied};
 ghost use Rattle.std.specs.Cmp.Lexicographic.{pointwise};
 ghost use Rattle.std.specs.Io.{ReadsAtMost};
-ghost use Rattle.io_ports.specs.Causes.{HasCause, CountsFault, next_count};
-ghost use Rattle.io_ports.specs.Named.{ReadsAt, place_named, bytes_named, count_named};
+ghost use Rattle.io_ports.specs.Causes.{HasCause, next_count};
+ghost use Rattle.io_ports.specs.Named.{ReadsAt, place_named, bytes_named, count_named, raised_at};
 ghost use Rattle.io_ports.specs.Devices.{FilesState};
 
 use crate::copying::copy_from;
@@ -76,6 +76,7 @@ fn bytes_of<'a>(files: &'a [NamedFile], name: &str) -> Option<&'a [u8]>
 // Raises the count at a place.
 fn raise(counts: &mut [u64], place: usize)
     requires { place < length counts.old }
+    ensures counts { counts.new ≡ raised_at counts.old place }
     ensures raised { slice_index counts.new place ≡ next_count (slice_index counts.old place) }
     ensures later { (k : ℕ) → slice_index counts.old k ≤ slice_index counts.new k }
 {
@@ -147,7 +148,7 @@ impl Files for MemFiles {
 
         // It fails exactly at the listed calls and for a name that isn't there.
         ensures refused { IsErr result ↔ (Contains self.old.fails (next_count self.old.calls) ⊎ IsNone (bytes_named self.old.files name.now)) }
-        ensures counts { CountsFault (count_named self.old.files self.old.faults name.now) (count_named self.new.files self.new.faults name.now) result }
+        ensures counts { MatchResult result (λ _. self.new.faults ≡ self.old.faults) (λ _. self.new.faults ≡ raised_at self.old.faults (place_named self.old.files name.now)) }
         ensures calls { self.new.calls ≡ next_count self.old.calls }
         ensures fails { self.new.fails ≡ self.old.fails }
         ensures files { self.new.files ≡ self.old.files }

@@ -1,9 +1,9 @@
 // The devices of the system. Each counts its faults and tells nothing of its content: the trusted edge.
-ghost use Rattle.std.specs.Prelude.{◌≡◌, ◌<◌, ◌≤◌, List, ℕ, None, length, IfOk};
+ghost use Rattle.std.specs.Prelude.{◌≡◌, ◌<◌, ◌≤◌, List, ℕ, None, length, IfOk, MatchResult};
 ghost use Rattle.std.specs.Io.{ReadsAtMost, WritesAtMost};
 ghost use Rattle.std.specs.Io.KnownBytes.{ReadConsumes};
 ghost use Rattle.io_ports.specs.Causes.{HasCause, WriteTakes, CountsFault};
-ghost use Rattle.io_ports.specs.Devices.{NameCounts, count_for};
+ghost use Rattle.io_ports.specs.Devices.{NameCounts, count_for, raised_for};
 
 use crate::{Failed, Files, Sink, Source};
 use std::io::{Read, Seek, SeekFrom, Write};
@@ -175,8 +175,7 @@ impl<'a, R: rt::Files> Files for StdFiles<'a, R> {
         ensures bound { ReadsAtMost result into.new }
         ensures cause { HasCause (count_for self.old name.now) (count_for self.new name.now) result }
         ensures later { (n : List ℕ) → count_for self.old n ≤ count_for self.new n }
-        ensures counts { CountsFault (count_for self.old name.now) (count_for self.new name.now) result }
-        ensures name { self.new.name ≡ self.old.name }
+        ensures counts { MatchResult result (λ _. self.new ≡ self.old) (λ _. self.new ≡ raised_for self.old name.now) }
     {
         if let Ok(count) = read_piece(self.rt, name, at, into) {
             return Ok(count);
