@@ -1,0 +1,1 @@
+-- The instruction of a word is the one whose word it is.
