@@ -56,11 +56,10 @@ is_operation ops.Add = record { from = omega arith; to = omega arith; small = om
 is_operation _ = record { from = omega arith; to = omega arith; small = omega arith; no_trap = omega arith }
 
 -- the operation with these fields is one
-at_fields : ℕ → ℕ → Option Op3
+abbrev pub at_fields : ℕ → ℕ → Option Op3
 at_fields op op3 = find (λ o. op_of o * 64 + op3_of o == op * 64 + op3) operations
 
-at_fields-is : (o : Op3) → at_fields (op_of o) (op3_of o) ≡ Some o
-unfolding at_fields
+pub at_fields-is : (o : Op3) → at_fields (op_of o) (op3_of o) ≡ Some o
 at_fields-is ops.Add = refl
 at_fields-is _ = refl
 
@@ -88,3 +87,24 @@ same_operand (Reg r) (Reg s) h k e = ap Reg (omega arith)
 same_operand (Reg r) (Imm n) h k e = absurd (omega arith)
 same_operand (Imm m) (Reg s) h k e = absurd (omega arith)
 same_operand (Imm m) (Imm n) h k e = ap Imm (same_signed13 m n h k (omega arith))
+
+-- a number that bits stand for fits them
+pub signed30-fits : (n : ℕ) → n < 2 ^ 30 → FitsSigned 30 (signed 30 n)
+signed30-fits n h = grind (arith, nat_tests)
+
+pub signed22-fits : (n : ℕ) → n < 2 ^ 22 → FitsSigned 22 (signed 22 n)
+signed22-fits n h = grind (arith, nat_tests)
+
+pub signed13-fits : (n : ℕ) → n < 2 ^ 13 → FitsSigned 13 (signed 13 n)
+signed13-fits n h = grind (arith, nat_tests)
+
+-- the fields of a word of an operation
+pub rd-read : (op rd op3 rs1 low : ℕ) → rd < 32 → op3 < 64 → rs1 < 32 → low < 2 ^ 14 → (op * 2 ^ 30 + rd * 2 ^ 25 + op3 * 2 ^ 19 + rs1 * 2 ^ 14 + low) / 2 ^ 25 % 32 ≡ rd
+rd-read op rd op3 rs1 low a b c d = omega arith
+
+pub rs1-read : (op rd op3 rs1 low : ℕ) → rs1 < 32 → low < 2 ^ 14 → (op * 2 ^ 30 + rd * 2 ^ 25 + op3 * 2 ^ 19 + rs1 * 2 ^ 14 + low) / 2 ^ 14 % 32 ≡ rs1
+rs1-read op rd op3 rs1 low c d = omega arith
+
+pub flag-read : (b : Bool) (n : ℕ) → n ≡ flag_bit b → (n == 1) ≡ b
+flag-read true n e = grind (arith, nat_tests)
+flag-read false n e = grind (arith, nat_tests)

@@ -14,4 +14,4 @@ mod operations;
 pub use decoding::decode;
 pub use encoding::encode;
 pub use insn::{Insn, Op3, Operand};
-pub use laws::one_word;
+pub use laws::{decodes, encodes, one_word};
