@@ -1,5 +1,5 @@
 -- The instruction of a word is the one whose word it is.
-use Rattle.std.proofs.Common.{◌≡◌, ◌≢◌, ℕ, ◌+◌, ◌-◌, ◌*◌, ◌/◌, ◌%◌, ◌^◌, ◌<◌, ◌≤◌, ℤ, pos, negsuc, Bool, true, false, cond, eqb, Option, Some, None, List, [], ◌∷◌, ◌++◌, ◌⊎◌, inl, inr, map, subst, refl, sym, ap, ◌∙◌, arith, rules}
+use Rattle.std.proofs.Common.{◌≡◌, ◌≢◌, ℕ, ◌+◌, ◌-◌, ◌*◌, ◌/◌, ◌%◌, ◌^◌, ◌<◌, ◌≤◌, ℤ, pos, negsuc, Bool, true, false, cond, eqb, Option, Some, None, IfSome, IfNone, List, [], ◌∷◌, ◌++◌, ◌⊎◌, inl, inr, map, subst, refl, sym, ap, ◌∙◌, arith, rules}
 use Rattle.std.specs.List.{find, flat_map}
 use Rattle.std.proofs.lemmas.Bool.{eqb-true, eq-eqb, cases_eq}
 use Rattle.sparc_insn.specs.Words.{op_of, op3_of, FitsSigned, complement_bits, flag_bit, IsOperand, IsCount, IsNothing, operand_bits, IsInsn, word_of}
@@ -211,3 +211,12 @@ decodes i h =
     let found = some-instruction i h in
     let there = encodes (word_of i) found.0 found.1 in
     found.1 ∙ ap Some (one_word found.0 i there.0 h there.1)
+
+none-is : (r : Option Insn) (word : ℕ) → instruction word ≡ r → ((i : Insn) → IsInsn i → word_of i ≢ word) → None ≡ instruction word
+none-is (Some i) word e k = let h = encodes word i e in absurd (k i h.0 h.1)
+none-is None word e k = sym e
+
+-- what a decoder gives that answers by the words of the subset
+pub instruction-is : (r : Option Insn) (word : ℕ) → IfSome r (λ i. IsInsn i × (word_of i ≡ word)) → IfNone r ((i : Insn) → IsInsn i → word_of i ≢ word) → r ≡ instruction word
+instruction-is (Some i) word h k = sym (decodes i h.0) ∙ ap instruction h.1
+instruction-is None word h k = none-is (instruction word) word refl k

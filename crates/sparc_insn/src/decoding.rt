@@ -1,5 +1,6 @@
 //! From a word to its instruction.
 ghost use Rattle.std.specs.Prelude.{◌≡◌, ◌≢◌, ◌<◌, ◌≤◌, ◌+◌, ◌*◌, ◌/◌, ◌%◌, ◌^◌, ◌↔◌, ℕ, ℤ, IfSome, IfNone, IsTrue};
+ghost use Rattle.sparc_insn.specs.Instructions.{instruction};
 ghost use Rattle.sparc_insn.specs.Words.{IsAllowed, IsInsn, FitsSigned, IsOperand, complement_bits, op_of, op3_of, operand_bits, word_of};
 ghost use Rattle.sparc_insn.specs.declared.insn.Insn.{Insn};
 ghost use Rattle.sparc_insn.specs.declared.insn.Op3.{Op3};
@@ -10,19 +11,28 @@ use crate::operations::operation;
 
 /// The instruction of a word, or `None` where no instruction of the subset has it.
 pub fn decode(word: u32) -> Option<Insn>
+    ensures value { result ≡ instruction word }
     ensures found { IfSome result (λ i. IsInsn i × (word_of i ≡ word)) }
     ensures none { IfNone result ((i : Insn) → IsInsn i → word_of i ≢ word) }
 {
     match word >> 30 {
         0 => decode_format2(word),
-        1 => Some(Insn::Call {
-            disp: signed30(word & 0x3fff_ffff),
-        }),
+        1 => decode_call(word),
         op => match operation(op, word >> 19 & 63) {
             Some(operation) => decode_three(operation, word),
             None => decode_trap(word),
         },
     }
+}
+
+fn decode_call(word: u32) -> Option<Insn>
+    requires { word / 2 ^ 30 ≡ 1 }
+    ensures found { IfSome result (λ i. IsInsn i × (word_of i ≡ word)) }
+    ensures none { IfNone result ((i : Insn) → IsInsn i → word_of i ≢ word) }
+{
+    Some(Insn::Call {
+        disp: signed30(word & 0x3fff_ffff),
+    })
 }
 
 fn decode_format2(word: u32) -> Option<Insn>
@@ -53,7 +63,18 @@ fn decode_three(operation: Op3, word: u32) -> Option<Insn>
 {
     let rd = (word >> 25 & 31) as u8;
     let rs1 = (word >> 14 & 31) as u8;
-    let from = operand(word & 0x3fff)?;
+    three(operation, rd, rs1, operand(word & 0x3fff)?)
+}
+
+/// The instruction with these fields, or `None` where the operation doesn't allow them.
+fn three(operation: Op3, rd: u8, rs1: u8, from: Operand) -> Option<Insn>
+    requires rd { rd < 32 }
+    requires rs1 { rs1 < 32 }
+    requires from { IsOperand from }
+    ensures found { IfSome result (λ i. IsInsn i × (i ≡ Insn.Three operation rd rs1 from)) }
+    ensures none { IfNone result
+        ((i : Insn) → IsInsn i → word_of i ≢ word_of (Insn.Three operation rd rs1 from)) }
+{
     is_allowed(operation, rd, rs1, from).then_some(Insn::Three {
         op: operation,
         rd,
@@ -63,9 +84,10 @@ fn decode_three(operation: Op3, word: u32) -> Option<Insn>
 }
 
 fn decode_trap(word: u32) -> Option<Insn>
-    requires { (o : Op3) → op_of o ≡ word / 2 ^ 30 → op3_of o ≢ word / 2 ^ 19 % 64 }
+    requires format3 { 2 * 2 ^ 30 ≤ word }
+    requires other { (o : Op3) → op_of o ≡ word / 2 ^ 30 → op3_of o ≢ word / 2 ^ 19 % 64 }
     ensures found { IfSome result (λ i. IsInsn i × (word_of i ≡ word)) }
-    ensures none { 2 * 2 ^ 30 ≤ word → IfNone result ((i : Insn) → IsInsn i → word_of i ≢ word) }
+    ensures none { IfNone result ((i : Insn) → IsInsn i → word_of i ≢ word) }
 {
     match word {
         0x91d0_2001..=0x91d0_2009 => Some(Insn::Trap {
