@@ -3,7 +3,7 @@ use Rattle.std.proofs.Common.{◌≡◌, ◌≢◌, ℕ, ◌+◌, ◌-◌, ◌*�
 use Rattle.std.specs.List.{find}
 use Rattle.std.specs.Prelude.{◌==◌}
 use Rattle.std.proofs.lemmas.Bool.Decides.{nat_tests}
-use Rattle.sparc_insn.specs.Words.{op_of, op3_of, FitsSigned, complement_bits, flag_bit, IsOperand, operand_bits}
+use Rattle.sparc_insn.specs.Words.{op_of, op3_of, IsSigned, complement_bits, flag_bit, IsOperand, operand_bits}
 use Rattle.sparc_insn.specs.Instructions.{operations, signed}
 use Rattle.sparc_insn.specs.declared.insn.Op3.{Op3}
 use Rattle.sparc_insn.specs.declared.insn.Op3.TheVariants as ops
@@ -11,27 +11,27 @@ use Rattle.sparc_insn.specs.declared.insn.Operand.{Operand}
 use Rattle.sparc_insn.specs.declared.insn.Operand.TheVariants.{Reg, Imm}
 
 -- a two's complement of so many bits is below their power, and stands for the number
-pub complement30-small : (z : ℤ) → FitsSigned 30 z → complement_bits 30 z < 2 ^ 30
+pub complement30-small : (z : ℤ) → IsSigned 30 z → complement_bits 30 z < 2 ^ 30
 complement30-small (pos n) h = omega arith
 complement30-small (negsuc n) h = omega arith
 
-pub complement22-small : (z : ℤ) → FitsSigned 22 z → complement_bits 22 z < 2 ^ 22
+pub complement22-small : (z : ℤ) → IsSigned 22 z → complement_bits 22 z < 2 ^ 22
 complement22-small (pos n) h = omega arith
 complement22-small (negsuc n) h = omega arith
 
-pub complement13-small : (z : ℤ) → FitsSigned 13 z → complement_bits 13 z < 2 ^ 13
+pub complement13-small : (z : ℤ) → IsSigned 13 z → complement_bits 13 z < 2 ^ 13
 complement13-small (pos n) h = omega arith
 complement13-small (negsuc n) h = omega arith
 
-pub signed30-complement : (z : ℤ) → FitsSigned 30 z → signed 30 (complement_bits 30 z) ≡ z
+pub signed30-complement : (z : ℤ) → IsSigned 30 z → signed 30 (complement_bits 30 z) ≡ z
 signed30-complement (pos n) h = grind (arith, nat_tests)
 signed30-complement (negsuc n) h = grind (arith, nat_tests)
 
-pub signed22-complement : (z : ℤ) → FitsSigned 22 z → signed 22 (complement_bits 22 z) ≡ z
+pub signed22-complement : (z : ℤ) → IsSigned 22 z → signed 22 (complement_bits 22 z) ≡ z
 signed22-complement (pos n) h = grind (arith, nat_tests)
 signed22-complement (negsuc n) h = grind (arith, nat_tests)
 
-pub signed13-complement : (z : ℤ) → FitsSigned 13 z → signed 13 (complement_bits 13 z) ≡ z
+pub signed13-complement : (z : ℤ) → IsSigned 13 z → signed 13 (complement_bits 13 z) ≡ z
 signed13-complement (pos n) h = grind (arith, nat_tests)
 signed13-complement (negsuc n) h = grind (arith, nat_tests)
 
@@ -67,13 +67,13 @@ pub same_operation : (o p : Op3) → op_of o ≡ op_of p → op3_of o ≡ op3_of
 same_operation o p e f = cc (at_fields-is o, at_fields-is p)
 
 -- equal bits are of equal values
-pub same_signed30 : (y z : ℤ) → FitsSigned 30 y → FitsSigned 30 z → complement_bits 30 y ≡ complement_bits 30 z → y ≡ z
+pub same_signed30 : (y z : ℤ) → IsSigned 30 y → IsSigned 30 z → complement_bits 30 y ≡ complement_bits 30 z → y ≡ z
 same_signed30 y z h k e = cc (signed30-complement y h, signed30-complement z k)
 
-pub same_signed22 : (y z : ℤ) → FitsSigned 22 y → FitsSigned 22 z → complement_bits 22 y ≡ complement_bits 22 z → y ≡ z
+pub same_signed22 : (y z : ℤ) → IsSigned 22 y → IsSigned 22 z → complement_bits 22 y ≡ complement_bits 22 z → y ≡ z
 same_signed22 y z h k e = sym (signed22-complement y h) ∙ ap (signed 22) e ∙ signed22-complement z k
 
-pub same_signed13 : (y z : ℤ) → FitsSigned 13 y → FitsSigned 13 z → complement_bits 13 y ≡ complement_bits 13 z → y ≡ z
+pub same_signed13 : (y z : ℤ) → IsSigned 13 y → IsSigned 13 z → complement_bits 13 y ≡ complement_bits 13 z → y ≡ z
 same_signed13 y z h k e = sym (signed13-complement y h) ∙ ap (signed 13) e ∙ signed13-complement z k
 
 pub same_flag : (a b : Bool) → flag_bit a ≡ flag_bit b → a ≡ b
@@ -89,13 +89,13 @@ same_operand (Imm m) (Reg s) h k e = absurd (omega arith)
 same_operand (Imm m) (Imm n) h k e = ap Imm (same_signed13 m n h k (omega arith))
 
 -- a number that bits stand for fits them
-pub signed30-fits : (n : ℕ) → n < 2 ^ 30 → FitsSigned 30 (signed 30 n)
+pub signed30-fits : (n : ℕ) → n < 2 ^ 30 → IsSigned 30 (signed 30 n)
 signed30-fits n h = grind (arith, nat_tests)
 
-pub signed22-fits : (n : ℕ) → n < 2 ^ 22 → FitsSigned 22 (signed 22 n)
+pub signed22-fits : (n : ℕ) → n < 2 ^ 22 → IsSigned 22 (signed 22 n)
 signed22-fits n h = grind (arith, nat_tests)
 
-pub signed13-fits : (n : ℕ) → n < 2 ^ 13 → FitsSigned 13 (signed 13 n)
+pub signed13-fits : (n : ℕ) → n < 2 ^ 13 → IsSigned 13 (signed 13 n)
 signed13-fits n h = grind (arith, nat_tests)
 
 -- the fields of a word of an operation

@@ -1,6 +1,6 @@
 -- No two instructions have one word.
 use Rattle.std.proofs.Common.{◌≡◌, ◌≢◌, ℕ, ◌+◌, ◌-◌, ◌*◌, ◌^◌, ◌<◌, ℤ, pos, negsuc, Bool, true, false, refl, sym, ap, subst, arith}
-use Rattle.sparc_insn.specs.Words.{op_of, op3_of, FitsSigned, complement_bits, flag_bit, IsOperand, IsAllowed, operand_bits, IsInsn, word_of}
+use Rattle.sparc_insn.specs.Words.{op_of, op3_of, IsSigned, complement_bits, flag_bit, IsOperand, IsAllowed, operand_bits, IsInsn, word_of}
 use Rattle.sparc_insn.specs.declared.insn.Op3.{Op3}
 use Rattle.sparc_insn.specs.declared.insn.Operand.{Operand}
 use Rattle.sparc_insn.specs.declared.insn.Operand.TheVariants.{Reg, Imm}

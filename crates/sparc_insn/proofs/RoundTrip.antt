@@ -2,7 +2,7 @@
 use Rattle.std.proofs.Common.{◌≡◌, ◌≢◌, ℕ, ◌+◌, ◌-◌, ◌*◌, ◌/◌, ◌%◌, ◌^◌, ◌<◌, ◌≤◌, ℤ, pos, negsuc, Bool, true, false, cond, eqb, Option, Some, None, IfSome, IfNone, List, [], ◌∷◌, ◌++◌, ◌⊎◌, inl, inr, map, subst, refl, sym, ap, ◌∙◌, arith, rules}
 use Rattle.std.specs.List.{find, flat_map}
 use Rattle.std.proofs.lemmas.Bool.{eqb-true, eq-eqb, cases_eq}
-use Rattle.sparc_insn.specs.Words.{op_of, op3_of, FitsSigned, complement_bits, flag_bit, IsOperand, IsCount, IsNothing, operand_bits, IsInsn, word_of}
+use Rattle.sparc_insn.specs.Words.{op_of, op3_of, IsSigned, complement_bits, flag_bit, IsOperand, IsCount, IsNothing, operand_bits, IsInsn, word_of}
 use Rattle.sparc_insn.specs.Instructions.{operations, signed, rd_of, rs1_of, rs2_of, simm13_of, with_either, with_operands, readings, instruction}
 use Rattle.sparc_insn.specs.declared.insn.Op3.{Op3}
 use Rattle.sparc_insn.specs.declared.insn.Op3.TheVariants as ops
@@ -78,7 +78,7 @@ rs1-fits word = omega arith
 rs2-fits : (word : ℕ) → rs2_of word < 32
 rs2-fits word = omega arith
 
-simm13-fits : (word : ℕ) → FitsSigned 13 (simm13_of word)
+simm13-fits : (word : ℕ) → IsSigned 13 (simm13_of word)
 simm13-fits word = signed13-fits (word % 2 ^ 13) (omega arith)
 
 each-with_operands : (word : ℕ) (op : Op3) → Each IsInsn (with_operands word op)
@@ -220,3 +220,14 @@ none-is None word e k = sym e
 pub instruction-is : (r : Option Insn) (word : ℕ) → IfSome r (λ i. IsInsn i × (word_of i ≡ word)) → IfNone r ((i : Insn) → IsInsn i → word_of i ≢ word) → r ≡ instruction word
 instruction-is (Some i) word h k = sym (decodes i h.0) ∙ ap instruction h.1
 instruction-is None word h k = none-is (instruction word) word refl k
+
+-- a word has 32 bits
+pub word_of-small : (i : Insn) → IsInsn i → word_of i < 2 ^ 32
+word_of-small (Call d) h = omega (arith, complement30-small d h)
+word_of-small (Sethi rd imm) h = omega arith
+word_of-small (Branch a c d) h = omega (arith, complement22-small d h.1, flag_bit-small a)
+word_of-small (Three op rd rs1 o) h =
+    let p = is_operation op in
+    let s = operand_bits-small o h.2 in
+    omega arith
+word_of-small (Trap n) h = omega arith

@@ -1,7 +1,7 @@
 //! From a word to its instruction.
 ghost use Rattle.std.specs.Prelude.{◌≡◌, ◌≢◌, ◌<◌, ◌≤◌, ◌+◌, ◌*◌, ◌/◌, ◌%◌, ◌^◌, ◌↔◌, ℕ, ℤ, IfSome, IfNone, IsTrue};
 ghost use Rattle.sparc_insn.specs.Instructions.{instruction};
-ghost use Rattle.sparc_insn.specs.Words.{IsAllowed, IsInsn, FitsSigned, IsOperand, complement_bits, op_of, op3_of, operand_bits, word_of};
+ghost use Rattle.sparc_insn.specs.Words.{IsAllowed, IsInsn, IsSigned, IsOperand, complement_bits, op_of, op3_of, operand_bits, word_of};
 ghost use Rattle.sparc_insn.specs.declared.insn.Insn.{Insn};
 ghost use Rattle.sparc_insn.specs.declared.insn.Op3.{Op3};
 ghost use Rattle.sparc_insn.specs.declared.insn.Operand.{Operand};
@@ -129,7 +129,7 @@ fn is_allowed(operation: Op3, rd: u8, rs1: u8, from: Operand) -> bool
 
 fn signed30(n: u32) -> i32
     requires { n < 2 ^ 30 }
-    ensures fits { FitsSigned 30 result }
+    ensures fits { IsSigned 30 result }
     ensures bits { complement_bits 30 result ≡ n }
 {
     if n < 0x2000_0000 {
@@ -141,7 +141,7 @@ fn signed30(n: u32) -> i32
 
 fn signed22(n: u32) -> i32
     requires { n < 2 ^ 22 }
-    ensures fits { FitsSigned 22 result }
+    ensures fits { IsSigned 22 result }
     ensures bits { complement_bits 22 result ≡ n }
 {
     if n < 0x20_0000 {

@@ -1,6 +1,6 @@
 //! From an instruction to its word.
 ghost use Rattle.std.specs.Prelude.{◌≡◌, ◌<◌, ◌^◌};
-ghost use Rattle.sparc_insn.specs.Words.{IsInsn, FitsSigned, IsOperand, complement_bits, operand_bits, word_of};
+ghost use Rattle.sparc_insn.specs.Words.{IsInsn, IsSigned, IsOperand, complement_bits, operand_bits, word_of};
 
 use crate::insn::{Insn, Operand};
 use crate::operations::{op, op3};
@@ -33,7 +33,7 @@ pub fn encode(insn: Insn) -> u32
 }
 
 fn disp30(disp: i32) -> u32
-    requires { FitsSigned 30 disp }
+    requires { IsSigned 30 disp }
     ensures bits { result ≡ complement_bits 30 disp }
     ensures small { result < 2 ^ 30 }
 {
@@ -45,7 +45,7 @@ fn disp30(disp: i32) -> u32
 }
 
 fn disp22(disp: i32) -> u32
-    requires { FitsSigned 22 disp }
+    requires { IsSigned 22 disp }
     ensures bits { result ≡ complement_bits 22 disp }
     ensures small { result < 2 ^ 22 }
 {

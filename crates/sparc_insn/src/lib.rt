@@ -10,6 +10,8 @@ mod encoding;
 mod insn;
 mod laws;
 mod operations;
+#[cfg(test)]
+mod tests;
 
 pub use decoding::decode;
 pub use encoding::encode;
