@@ -42,9 +42,9 @@ pub other_bytes_stay : (m : Words) (at x b : ℕ) → IsWithin m → HasByte at 
 unfolding byte_at with_byte
 other_bytes_stay m at x b whole here small ne =
     elim (cases_eq (word_of b) (word_of at)) [
-    | inr apart ↦ ap (λ w. get_or (to_be_bytes w32 w) (b % 4) 0) (others_stay m (word_of at) _ (word_of b) apart)
-    | inl same ↦
-        rw same (
+      | inr apart ↦ ap (λ w. get_or (to_be_bytes w32 w) (b % 4) 0) (others_stay m (word_of at) _ (word_of b) apart)
+      | inl same ↦
+          rw same (
           ap (λ w. get_or (to_be_bytes w32 w) (b % 4) 0) (put_there m (word_of at) _ whole (has_word_of at here))
           ∙ ap (λ bs. get_or bs (b % 4) 0) (bytes_put (word_at m (word_of at)) (at % 4) x small)
           ∙ get_or-set_other (to_be_bytes w32 (word_at m (word_of at))) (at % 4) (b % 4) x 0 (λ e. ne (same_byte b at same e)))

@@ -1,5 +1,5 @@
 -- What a word put at an address leaves.
-use Rattle.std.proofs.Common.{◌≡◌, ◌≢◌, ◌⊎◌, inl, inr, refl, sym, ap, ◌∙◌, ℕ, ◌+◌, ◌-◌, ◌*◌, ◌/◌, ◌%◌, ◌<◌, ◌≤◌, ◌&&◌, List, length, nat_eq, nat_lt, nat_le, slice_index, slice_set, get_or, set, arith, get_or-set_other, get_or-set_same}
+use Rattle.std.proofs.Common.{◌≡◌, ◌≢◌, ◌⊎◌, inl, inr, refl, sym, ap, ◌∙◌, ℕ, ◌+◌, ◌-◌, ◌*◌, ◌/◌, ◌%◌, ◌<◌, ◌≤◌, ◌&&◌, List, length, nat_eq, nat_lt, nat_le, slice_index, slice_set, get_or, set, arith, lit<, ◌^◌, get_or-set_other, get_or-set_same}
 use Rattle.std.proofs.Math.ListN.{length-set}
 use Rattle.std.proofs.lemmas.Grind.{common_steps}
 use Rattle.sparc_store.specs.Regions.{Place, Code, Heap, Control, Stacks, Nowhere, place_of, stack_place, is_inside}
@@ -76,3 +76,16 @@ put_stays_within m at w whole = put_within m (place_of at) w whole
 
 pub stored_there : (m : Words) (at w : ℕ) → IsWithin m → HasWord at → Stored m (with_word m at w) at w
 stored_there m at w whole here = record { put = put_there m at w whole here; others = λ b ne. others_stay m at w b ne }
+
+small_in : (m : Words) (p : Place) → ((k : ℕ) → slice_index m.code k < 2 ^ 32) → ((k : ℕ) → slice_index m.heap k < 2 ^ 32)
+    → ((k : ℕ) → slice_index m.control k < 2 ^ 32) → ((k : ℕ) → slice_index m.stacks k < 2 ^ 32) → word_in m p < 2 ^ 32
+small_in m (Code k) code heap control stacks = code k
+small_in m (Heap k) code heap control stacks = heap k
+small_in m (Control k) code heap control stacks = control k
+small_in m (Stacks k) code heap control stacks = stacks k
+small_in m Nowhere code heap control stacks = lit< tt
+
+pub small_words : (m : Words) (a : ℕ) → ((k : ℕ) → slice_index m.code k < 2 ^ 32) → ((k : ℕ) → slice_index m.heap k < 2 ^ 32)
+    → ((k : ℕ) → slice_index m.control k < 2 ^ 32) → ((k : ℕ) → slice_index m.stacks k < 2 ^ 32) → word_at m a < 2 ^ 32
+unfolding word_at
+small_words m a code heap control stacks = small_in m (place_of a) code heap control stacks

@@ -1,7 +1,7 @@
 // Words and bytes by their addresses. Each region is a vector of words; the address tells the region.
 ghost use Rattle.std.specs.Prelude.{◌≡◌, ◌⊎◌, ◌≢◌, ◌≤◌, ◌<◌, ◌+◌, ◌-◌, ◌*◌, ◌/◌, ◌%◌, ◌^◌, List, ℕ, length, IfOk, slice_index, slice_set};
 ghost use Rattle.std.specs.Borrow.{sem};
-ghost use Rattle.sparc_store.specs.Words.{Words, word_at, HasByte, HasWord, HasStackByte, HasFrame, with_word, Stored, byte_at, with_byte, StoredByte, IsWithin};
+ghost use Rattle.sparc_store.specs.Words.{Words, word_at, HasByte, HasWord, HasStackByte, HasFrame, with_word, Stored, byte_at, with_byte, StoredByte, with_frame, Framed, IsWithin};
 ghost use Rattle.sparc_store.specs.Regions.{stack_place};
 ghost use Rattle.sparc_store.specs.Frame.{LendsFrame};
 
@@ -75,6 +75,16 @@ impl Memory {
         ensures { IsWithin self.now }
     {
         let _ = &self.code;
+    }
+
+    /// A law: a word of memory has 32 bits.
+    pub fn are_words(&self)
+        ensures { (a : ℕ) → word_at self.now a < 2 ^ 32 }
+    {
+        all_are_words(&self.code);
+        all_are_words(&self.heap);
+        all_are_words(&self.control);
+        all_are_words(&self.stacks);
     }
 
     #[tactic(auto, unfolding(crate::specs::Words::word_at))]
@@ -153,8 +163,8 @@ impl Memory {
     }
 
     #[tactic(auto, unfolding(crate::specs::Words::with_frame))]
-    /// So many words from an address of a stack on, to be written.
-    pub fn frame_mut(&mut self, at: u32, words: u32) -> &mut [u32]
+    // So many words from an address of a stack on, to be written.
+    fn lend(&mut self, at: u32, words: u32) -> &mut [u32]
         requires { HasFrame at words }
         ensures* writes_back { sem 𝓛 (LendsFrame self.entry at result) }
         ensures len { length result.now ≡ words }
@@ -162,6 +172,17 @@ impl Memory {
     {
         let from = place_in_stacks(at);
         self.stacks.slice_mut(from..from + words as usize)
+    }
+
+    /// Lends so many words from an address of a stack on, to be written; they lie in that one stack.
+    pub fn frame_mut(&mut self, at: u32, words: u32) -> &mut [u32]
+        requires { HasFrame at words }
+        ensures* writes_back { sem 𝓛 (LendsFrame self.entry at result) }
+        ensures len { length result.now ≡ words }
+        ensures framed { (ws : List ℕ) → length ws ≡ words → Framed self.old (with_frame self.old at ws) at ws }
+        ensures within { IsWithin self.old }
+    {
+        self.lend(at, words)
     }
 }
 
@@ -181,3 +202,8 @@ fn zeros(alloc: Global, count: usize) -> Result<Vec<u32>, OutOfMemory>
 {
     Ok(vec![in alloc; 0u32; count]?)
 }
+
+// A law: an element of a list of words has 32 bits.
+fn all_are_words(words: &[u32])
+    ensures { (k : ℕ) → slice_index words.now k < 2 ^ 32 }
+{}

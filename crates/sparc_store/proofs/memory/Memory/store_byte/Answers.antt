@@ -16,4 +16,4 @@ returns-clause-whole c = whole _ _ _ _ _ _ _ c.load.ensures.word c.to_be_bytes-b
 pub returns-clause-stored : goal.returns-clause-stored
 returns-clause-stored c =
     rw (whole _ _ _ _ _ _ _ c.load.ensures.word c.to_be_bytes-bytes.ensures c.from_be_bytes.ensures c.store.ensures.whole)
-      (stored_byte_there _ _ _ c.load.ensures.within c.requires c.ranges.byte.fits)
+    (stored_byte_there _ _ _ c.load.ensures.within c.requires c.ranges.byte.fits)
