@@ -2,8 +2,7 @@
 -- SPARC Architecture Manual Version 8, appendix B; delayed control transfer, chapter 5.
 use Rattle.std.specs.Prelude.{◌≡◌, ◌≢◌, ℕ, ◌+◌, ◌-◌, ◌*◌, ◌%◌, ◌^◌, ◌<◌, length, Bool, ◌&&◌, ℤ, pos, negsuc, if◌then◌else◌, nat_eq, bit_xor, FitsSigned}
 use Rattle.std.specs.Int.{w32, cast_unsigned}
-use Rattle.sparc_store.specs.Words.{word_at, with_word, HasWord, HasByte}
-use Rattle.sparc_store.specs.Bytes.{byte_at, with_byte}
+use Rattle.sparc_store.specs.Words.{word_at, with_word, byte_at, with_byte, HasWord, HasByte}
 use Rattle.sparc_insn.specs.declared.insn.Insn.{Insn}
 use Rattle.sparc_insn.specs.declared.insn.Insn.TheVariants.{Call, Sethi, Branch, Three, Trap}
 use Rattle.sparc_insn.specs.declared.insn.Operand.{Operand}

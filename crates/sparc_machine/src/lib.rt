@@ -6,8 +6,14 @@
 // The condition of a step, `CanStep`, is the caller's to show. No memory is taken after `Machine::open`.
 #![tactic(auto)]
 
+mod alu;
 mod event;
 mod icc;
+mod machine;
+mod registers;
+mod step;
+mod work;
 
 pub use event::{Event, MachineRun};
 pub use icc::Icc;
+pub use machine::Machine;
