@@ -52,10 +52,10 @@ abbrev pub flag_bit : Bool → ℕ
 flag_bit true = 1
 flag_bit false = 0
 
--- a number fits so many bits with sign
-abbrev pub FitsSigned : ℕ → ℤ → Type 0
-FitsSigned bits (pos n) = n < 2 ^ (bits - 1)
-FitsSigned bits (negsuc n) = n < 2 ^ (bits - 1)
+-- a number of so many bits with sign
+abbrev pub IsSigned : ℕ → ℤ → Type 0
+IsSigned bits (pos n) = n < 2 ^ (bits - 1)
+IsSigned bits (negsuc n) = n < 2 ^ (bits - 1)
 
 -- the two's complement of so many bits
 abbrev pub complement_bits : ℕ → ℤ → ℕ
@@ -80,7 +80,7 @@ word_of (Trap number) = 2 * 2 ^ 30 + 8 * 2 ^ 25 + 0x3a * 2 ^ 19 + 2 ^ 13 + numbe
 -- a register's number, or a number of thirteen bits with sign
 abbrev pub IsOperand : Operand → Type 0
 IsOperand (Reg r) = r < 32
-IsOperand (Imm n) = FitsSigned 13 n
+IsOperand (Imm n) = IsSigned 13 n
 
 -- a shift's count: a register, or a number from 0 to 31
 abbrev pub IsCount : Operand → Type 0
@@ -105,8 +105,8 @@ IsAllowed _ rd rs1 from = Unit {0}
 
 -- the instruction is of the subset: each field fits its bits, and the operation allows it
 abbrev pub IsInsn : Insn → Type 0
-IsInsn (Call disp) = FitsSigned 30 disp
+IsInsn (Call disp) = IsSigned 30 disp
 IsInsn (Sethi rd imm) = (rd < 32) × (imm < 2 ^ 22)
-IsInsn (Branch annul cond disp) = (cond < 16) × FitsSigned 22 disp
+IsInsn (Branch annul cond disp) = (cond < 16) × IsSigned 22 disp
 IsInsn (Three op rd rs1 from) = (rd < 32) × (rs1 < 32) × IsOperand from × IsAllowed op rd rs1 from
 IsInsn (Trap number) = (1 ≤ number) × (number ≤ 9)

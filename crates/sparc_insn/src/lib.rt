@@ -5,6 +5,15 @@
 //! the instruction of a word, and `None` exactly for the words that no instruction has.
 #![tactic(auto)]
 
+mod decoding;
+mod encoding;
 mod insn;
+mod laws;
+mod operations;
+#[cfg(test)]
+mod tests;
 
+pub use decoding::decode;
+pub use encoding::encode;
 pub use insn::{Insn, Op3, Operand};
+pub use laws::{decodes, encodes, one_word};

@@ -1,0 +1,3 @@
+pub mod Fields
+pub mod OneWord
+pub mod RoundTrip
