@@ -1,5 +1,5 @@
 -- How a machine keeps its registers, and which machine that is.
-use Rattle.std.specs.Prelude.{◌≡◌, ℕ, zero, suc, ◌+◌, ◌-◌, ◌*◌, ◌≤◌, List, [], ◌∷◌, length, nat_lt, if◌then◌else◌, slice_index}
+use Rattle.std.specs.Prelude.{◌≡◌, ℕ, zero, suc, ◌+◌, ◌-◌, ◌*◌, ◌<◌, ◌≤◌, List, [], ◌∷◌, length, nat_lt, if◌then◌else◌, slice_index}
 use Rattle.sparc_store.specs.Words.{Words}
 use Rattle.sparc_machine.specs.declared.icc.Icc.{Icc}
 use Rattle.sparc_machine.specs.Flat.{Flat}
@@ -53,3 +53,10 @@ pub record Held : Type 0 where
 -- the machine that holds it
 unfoldable pub flat : Held → Flat
 flat h = record { memory = h.memory; regs = regs_of h.file; older = older_of h.file; pc = h.pc; npc = h.npc; y = h.y; icc = h.icc }
+
+-- a frame is begun in the list: its locals and outs are 0, its ins and all before it are as they were
+pub record Begun (old new : List ℕ) (start : ℕ) : Type 0 where
+  pub locals : (k : ℕ) → k < 8 → slice_index new (start + k) ≡ 0
+  pub ins : (k : ℕ) → 8 ≤ k → k < 16 → slice_index new (start + k) ≡ slice_index old (start + k)
+  pub outs : (k : ℕ) → k < 8 → slice_index new (start + 24 + k) ≡ 0
+  pub before : (i : ℕ) → i < start → slice_index new i ≡ slice_index old i

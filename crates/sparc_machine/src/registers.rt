@@ -1,7 +1,7 @@
 // The registers of all frames.
-ghost use Rattle.std.specs.Prelude.{◌≡◌, ◌≤◌, ◌<◌, ◌+◌, ◌-◌, ◌*◌, ◌∷◌, ℕ, [], List, length, IfOk};
+ghost use Rattle.std.specs.Prelude.{◌≡◌, ◌≤◌, ◌<◌, ◌+◌, ◌-◌, ◌*◌, ◌∷◌, ℕ, [], List, length, IfOk, slice_index};
 ghost use Rattle.sparc_machine.specs.Flat.{with_reg, entered, kept, gone_back};
-ghost use Rattle.sparc_machine.specs.Held.{File, regs_of, older_of, frame_at, place_of};
+ghost use Rattle.sparc_machine.specs.Held.{File, regs_of, older_of, frame_at, place_of, Begun};
 
 use sparc_store::OutOfMemory;
 use std::alloc::Global;
@@ -40,7 +40,7 @@ impl Registers {
     {
         Ok(Registers {
             globals: [0; 8],
-            windows: vec![in alloc; 0u32; WORDS]?,
+            windows: zeros(alloc, WORDS)?,
             depth: 0,
         })
     }
@@ -80,11 +80,7 @@ impl Registers {
         ensures older { older_of self.new ≡ kept (regs_of self.old) ∷ older_of self.old }
     {
         self.depth += 1;
-        let start = 16 * self.depth;
-        for k in 0..8 {
-            self.windows[start + k] = 0;
-            self.windows[start + 24 + k] = 0;
-        }
+        begin_frame(&mut self.windows, 16 * self.depth);
     }
 
     // Goes back to the youngest of the older frames.
@@ -97,6 +93,13 @@ impl Registers {
     }
 }
 
+fn zeros(alloc: Global, count: usize) -> Result<Vec<u32>, OutOfMemory>
+    ensures len { IfOk result (λ v. length v.items ≡ count) }
+    ensures each { IfOk result (λ v. (k : ℕ) → slice_index v.items k ≡ 0) }
+{
+    Ok(vec![in alloc; 0u32; count]?)
+}
+
 // Where a register from 8 to 31 stands behind the first of its frame.
 fn place(register: u8) -> usize
     requires from { 8 ≤ register }
@@ -107,5 +110,16 @@ fn place(register: u8) -> usize
         register as usize + 16
     } else {
         register as usize - 16
+    }
+}
+
+// Clears the locals and the outs of the frame that begins there.
+fn begin_frame(windows: &mut [u32], start: usize)
+    requires { start + 32 ≤ length windows.old }
+    ensures { Begun windows.old windows.new start }
+{
+    for k in 0..8 {
+        windows[start + k] = 0;
+        windows[start + 24 + k] = 0;
     }
 }

@@ -1,6 +1,6 @@
 // Steps and runs.
 ghost use Rattle.std.specs.Prelude.{◌≡◌, ◌<◌, ◌≤◌, ◌+◌, ◌-◌, ◌%◌, ◌^◌, ℕ, Some, length, ℤ};
-ghost use Rattle.sparc_insn.specs.Words.{IsInsn, IsOperand, FitsSigned as FitsBits};
+ghost use Rattle.sparc_insn.specs.Words.{IsInsn, IsOperand, IsSigned};
 ghost use Rattle.sparc_machine.specs.Flat.{Flat, put};
 ghost use Rattle.sparc_machine.specs.Held.{flat};
 ghost use Rattle.sparc_machine.specs.Alu.{add};
@@ -99,7 +99,7 @@ impl Machine {
     // A Bicc.
     fn branch(&mut self, annul: bool, cond: u8, disp: i32)
         requires cond { cond < 16 }
-        requires disp { FitsBits 22 disp }
+        requires disp { IsSigned 22 disp }
         ensures { flat self.new ≡ effect (Insn.Branch annul cond disp) (flat self.old) }
     {
         let target = words_on(self.pc(), disp);
@@ -221,7 +221,7 @@ impl Machine {
 
 // The address so many words on from another.
 fn words_on(at: u32, words: i32) -> u32
-    requires { FitsBits 30 words }
+    requires { IsSigned 30 words }
     ensures { result ≡ words_on at words }
 {
     at.wrapping_add((4 * words).cast_unsigned())
