@@ -32,7 +32,7 @@ pub quotient_is : (y x v r : ℕ) (a b : ℤ) → FitsSigned w64 a → FitsSigne
     → r ≡ of_z w32 (to_z w32 (of_z w32 (to_z w64 (of_z w64 (int_div (to_z w64 (of_z w64 a)) (to_z w64 (of_z w64 b))))))) → r ≡ of_z w32 (quotient y x v)
 quotient_is y x v r a b la lb fits ea eb h =
     let parts : int_div (to_z w64 (of_z w64 a)) (to_z w64 (of_z w64 b)) ≡ quotient y x v =
-        ap (λ z. int_div z (to_z w64 (of_z w64 b))) (to_z-of_z w64 a la ∙ ea) ∙ ap (λ z. int_div (to_z w64 (y * 2 ^ 32 + x)) z) (to_z-of_z w64 b lb ∙ eb) in
+    ap (λ z. int_div z (to_z w64 (of_z w64 b))) (to_z-of_z w64 a la ∙ ea) ∙ ap (λ z. int_div (to_z w64 (y * 2 ^ 32 + x)) z) (to_z-of_z w64 b lb ∙ eb) in
     h ∙ ap (λ z. of_z w32 (to_z w32 (of_z w32 (to_z w64 (of_z w64 z))))) parts
     ∙ ap (λ z. of_z w32 (to_z w32 (of_z w32 z))) (to_z-of_z w64 (quotient y x v) (fits_more (quotient y x v) fits))
     ∙ ap (of_z w32) (to_z-of_z w32 (quotient y x v) fits)

@@ -25,7 +25,7 @@ unfolding frames_below
 frames_same ws vs zero h = refl
 frames_same ws vs (suc d) h =
     rw (frames_same ws vs d (λ i lt. h i (omega arith)))
-      (ap (λ (f : ℕ → ℕ). f ∷ frames_below ws d) (fun_ext (λ k. frame_same ws vs d k (λ i lt. h i (omega arith)))))
+    (ap (λ (f : ℕ → ℕ). f ∷ frames_below ws d) (fun_ext (λ k. frame_same ws vs d k (λ i lt. h i (omega arith)))))
 
 pub set_global : (f : File) (r w : ℕ) → IsFile f → r ≢ 0 → r < 8 → regs_of (record f { globals = slice_set f.globals r w }) ≡ with_reg (regs_of f) r w
 unfolding regs_of

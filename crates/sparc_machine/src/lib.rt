@@ -12,6 +12,8 @@ mod icc;
 mod machine;
 mod registers;
 mod step;
+#[cfg(test)]
+mod tests;
 mod work;
 
 pub use event::{Event, MachineRun};

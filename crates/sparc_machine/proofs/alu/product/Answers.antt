@@ -11,6 +11,6 @@ returns c =
     let x = widened c.args.x c.cast_signed.result c.from.result c.cast_signed.ensures fits_x c.from.ensures in
     let y = widened c.args.y c.cast_signed-2.result c.from-2.result c.cast_signed-2.ensures fits_y c.from-2.ensures in
     product_is c.args.x c.args.y c.cast_unsigned.result c.from.result c.from-2.result
-      (subst P (sym x) (fits_still c.args.x c.cast_signed.result c.cast_signed.ensures fits_x))
-      (subst P (sym y) (fits_still c.args.y c.cast_signed-2.result c.cast_signed-2.ensures fits_y))
-      (record { sfits = c.from.type_inv }) (record { sfits = c.from-2.type_inv }) x y c.cast_unsigned.ensures
+    (subst P (sym x) (fits_still c.args.x c.cast_signed.result c.cast_signed.ensures fits_x))
+    (subst P (sym y) (fits_still c.args.y c.cast_signed-2.result c.cast_signed-2.ensures fits_y))
+    (record { sfits = c.from.type_inv }) (record { sfits = c.from-2.type_inv }) x y c.cast_unsigned.ensures
