@@ -1,9 +1,8 @@
 -- No two instructions have one word.
-use Rattle.std.proofs.Common.{◌≡◌, ◌≢◌, ℕ, ◌+◌, ◌-◌, ◌*◌, ◌^◌, ◌<◌, ℤ, pos, negsuc, Bool, true, false, refl, sym, ap, subst, arith}
-use Rattle.sparc_insn.specs.Words.{op_of, op3_of, IsSigned, complement_bits, flag_bit, IsOperand, IsAllowed, operand_bits, IsInsn, word_of}
+use Rattle.std.proofs.Common.{◌≡◌, ◌≢◌, ℕ, ◌<◌, sym, ap, subst, arith}
+use Rattle.sparc_insn.specs.Words.{IsOperand, IsAllowed, IsInsn, word_of}
 use Rattle.sparc_insn.specs.declared.insn.Op3.{Op3}
 use Rattle.sparc_insn.specs.declared.insn.Operand.{Operand}
-use Rattle.sparc_insn.specs.declared.insn.Operand.TheVariants.{Reg, Imm}
 use Rattle.sparc_insn.specs.declared.insn.Insn.{Insn}
 use Rattle.sparc_insn.specs.declared.insn.Insn.TheVariants.{Call, Sethi, Branch, Three, Trap}
 use Rattle.sparc_insn.proofs.Fields.{complement30-small, complement22-small, operand_bits-small, flag_bit-small, is_operation, same_operation, same_signed30, same_signed22, same_operand, same_flag}

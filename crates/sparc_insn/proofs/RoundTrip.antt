@@ -1,8 +1,8 @@
 -- The instruction of a word is the one whose word it is.
-use Rattle.std.proofs.Common.{◌≡◌, ◌≢◌, ℕ, ◌+◌, ◌-◌, ◌*◌, ◌/◌, ◌%◌, ◌^◌, ◌<◌, ◌≤◌, ℤ, pos, negsuc, Bool, true, false, cond, eqb, Option, Some, None, IfSome, IfNone, List, [], ◌∷◌, ◌++◌, ◌⊎◌, inl, inr, map, subst, refl, sym, ap, ◌∙◌, arith, rules}
+use Rattle.std.proofs.Common.{◌≡◌, ◌≢◌, ℕ, ◌+◌, ◌*◌, ◌/◌, ◌%◌, ◌^◌, ◌<◌, ◌≤◌, ℤ, pos, negsuc, Bool, true, false, cond, eqb, Option, Some, None, IfSome, IfNone, List, [], ◌∷◌, ◌++◌, ◌⊎◌, inl, inr, map, subst, refl, sym, ap, ◌∙◌, arith, rules}
 use Rattle.std.specs.List.{find, flat_map}
 use Rattle.std.proofs.lemmas.Bool.{eqb-true, eq-eqb, cases_eq}
-use Rattle.sparc_insn.specs.Words.{op_of, op3_of, IsSigned, complement_bits, flag_bit, IsOperand, IsCount, IsNothing, operand_bits, IsInsn, word_of}
+use Rattle.sparc_insn.specs.Words.{op_of, op3_of, IsSigned, complement_bits, IsOperand, IsCount, IsNothing, operand_bits, IsInsn, word_of}
 use Rattle.sparc_insn.specs.Instructions.{operations, signed, rd_of, rs1_of, rs2_of, simm13_of, with_either, with_operands, readings, instruction}
 use Rattle.sparc_insn.specs.declared.insn.Op3.{Op3}
 use Rattle.sparc_insn.specs.declared.insn.Op3.TheVariants as ops

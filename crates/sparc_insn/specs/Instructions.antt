@@ -1,5 +1,5 @@
 -- The instruction of a word.
-use Rattle.std.specs.Prelude.{ℕ, ◌-◌, ◌*◌, ◌/◌, ◌%◌, ◌^◌, ◌==◌, nat_lt, if◌then◌else◌, ℤ, pos, negsuc, Option, List, [], ◌∷◌, ◌++◌, map, find}
+use Rattle.std.specs.Prelude.{ℕ, ◌-◌, ◌/◌, ◌%◌, ◌^◌, ◌==◌, nat_lt, if◌then◌else◌, ℤ, pos, negsuc, Option, List, [], ◌∷◌, ◌++◌, map, find}
 use Rattle.std.specs.List.{flat_map}
 use Rattle.sparc_insn.specs.Words.{word_of}
 use Rattle.sparc_insn.specs.declared.insn.Op3.{Op3}

@@ -28,6 +28,7 @@ pub fn encode(insn: Insn) -> u32
             let front = front << 5 | rs1 as u32;
             front << 14 | second_operand(from)
         }
+        // condition 8, always; the number is added to register 0
         Insn::Trap { number } => 0x91d0_2000 | number as u32,
     }
 }
