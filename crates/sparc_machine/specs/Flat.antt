@@ -1,6 +1,6 @@
 -- What a machine is: its memory, the registers in view, the older frames, and its four special registers.
 -- SPARC Architecture Manual Version 8, chapter 4 (registers), with plain frames in place of a ring of windows.
-use Rattle.std.specs.Prelude.{ℕ, ◌+◌, ◌-◌, ◌&&◌, List, [], ◌∷◌, not, nat_eq, nat_lt, if◌then◌else◌}
+use Rattle.std.specs.Prelude.{ℕ, ◌+◌, ◌-◌, ◌&&◌, List, [], ◌∷◌, false, not, nat_eq, nat_lt, if◌then◌else◌}
 use Rattle.sparc_store.specs.Words.{Words}
 use Rattle.sparc_machine.specs.declared.icc.Icc.{Icc}
 
@@ -47,3 +47,15 @@ in_new_frame m = record m { regs = entered m.regs; older = kept m.regs ∷ m.old
 abbrev pub in_older_frame : List (ℕ → ℕ) → Flat → Flat
 in_older_frame [] m = m
 in_older_frame (frame ∷ frames) m = record m { regs = gone_back m.regs frame; older = frames }
+
+-- a machine over this memory as it is opened: one frame, every register 0, at address 0, the condition codes clear
+abbrev pub opened : Words → Flat
+opened memory = record {
+  memory = memory;
+  regs = λ _. 0;
+  older = [];
+  pc = 0;
+  npc = 4;
+  y = 0;
+  icc = record { negative = false; zero = false; overflow = false; carry = false };
+}

@@ -1,7 +1,7 @@
 // The machine, and what the host may do to it.
-ghost use Rattle.std.specs.Prelude.{◌≡◌, ◌≤◌, ◌<◌, ◌+◌, ◌%◌, ◌^◌, ℕ, [], ◌∷◌, List, length, false, IfOk};
+ghost use Rattle.std.specs.Prelude.{◌≡◌, ◌<◌, ◌+◌, ◌^◌, length, IfOk};
 ghost use Rattle.sparc_store.specs.Words.{word_at, with_word, byte_at, with_byte, HasWord, HasByte};
-ghost use Rattle.sparc_machine.specs.Flat.{Flat, put, in_new_frame, in_older_frame};
+ghost use Rattle.sparc_machine.specs.Flat.{opened, put, in_new_frame, in_older_frame};
 ghost use Rattle.sparc_machine.specs.Table.{went, transferred, jumped};
 ghost use Rattle.sparc_machine.specs.Held.{flat};
 
@@ -36,7 +36,7 @@ impl Machine {
     /// A machine over this memory with one frame, whose registers are all 0. It stands at address 0, Y is 0 and the condition
     /// codes are clear.
     pub fn open(alloc: Global, memory: Memory) -> Result<Machine, OutOfMemory>
-        ensures { IfOk result (λ m. flat m ≡ record { memory = memory; regs = λ _. 0; older = []; pc = 0; npc = 4; y = 0; icc = record { negative = false; zero = false; overflow = false; carry = false } }) }
+        ensures { IfOk result (λ m. flat m ≡ opened memory) }
     {
         Ok(Machine {
             memory,

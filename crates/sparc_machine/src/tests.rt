@@ -5,7 +5,7 @@ use std::process::Abort;
 
 #[test]
 fn opens(rt: HostRuntime) {
-    let memory = Memory::open(rt.alloc()).expect(&rt, "the memory's regions");
+    let memory = Memory::open(rt.alloc(), 0).expect(&rt, "the memory's regions");
     let mut machine = Machine::open(rt.alloc(), memory).expect(&rt, "the registers");
     machine.set(8, 5);
     assert_eq!(rt; machine.get(8), 5);

@@ -1,4 +1,4 @@
-use Rattle.std.proofs.Common.{◌≡◌, ◌≤◌, ◌<◌, ◌+◌, ◌-◌, ◌*◌, ℕ, List, length, ap, sym, ◌∙◌, arith}
+use Rattle.std.proofs.Common.{◌≡◌, length, ap, arith}
 use Rattle.sparc_machine.specs.Held.{File}
 use Rattle.sparc_machine.proofs.Windows.{length-older_of, entered_regs, entered_older, written_over}
 use Rattle.sparc_machine.proofs.registers.Registers.enter.Goals as goal

@@ -1,4 +1,4 @@
-use Rattle.std.proofs.Common.{◌≡◌, ◌∙◌, arith}
+use Rattle.std.proofs.Common.{◌∙◌, arith}
 use Rattle.sparc_machine.proofs.Windows.{got_global, got_windowed}
 use Rattle.sparc_machine.proofs.registers.Registers.get.Goals as goal
 

@@ -1,4 +1,4 @@
-use Rattle.std.proofs.Common.{◌≡◌, ◌≤◌, ◌<◌, ◌+◌, ◌-◌, ap, sym, ◌∙◌, arith}
+use Rattle.std.proofs.Common.{◌≡◌, ap, arith}
 use Rattle.sparc_machine.specs.Held.{File}
 use Rattle.sparc_machine.proofs.Windows.{length-older_of, gone_regs, gone_older}
 use Rattle.sparc_machine.proofs.registers.Registers.go_back.Goals as goal

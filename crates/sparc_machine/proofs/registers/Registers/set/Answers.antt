@@ -1,4 +1,4 @@
-use Rattle.std.proofs.Common.{◌≡◌, refl, arith}
+use Rattle.std.proofs.Common.{refl, arith}
 use Rattle.sparc_machine.specs.Held.{older_of}
 use Rattle.sparc_machine.proofs.Windows.{set_global, set_windowed, older_stay}
 use Rattle.sparc_machine.proofs.registers.Registers.set.Goals as goal
