@@ -54,6 +54,7 @@ impl Machine {
     }
 
     /// The register of this number, from 0 to 31, in the frame in view.
+    #[inline]
     pub fn get(&self, register: u8) -> u32
         requires { register < 32 }
         ensures { result ≡ (flat self.now).regs register }
@@ -62,6 +63,7 @@ impl Machine {
     }
 
     /// Puts a word into a register; register 0 takes none.
+    #[inline]
     pub fn set(&mut self, register: u8, word: u32)
         requires { register < 32 }
         ensures { flat self.new ≡ put (flat self.old) register word }
@@ -70,6 +72,7 @@ impl Machine {
     }
 
     /// The address of the next instruction.
+    #[inline]
     pub fn pc(&self) -> u32
         ensures { result ≡ (flat self.now).pc }
     {
@@ -77,6 +80,7 @@ impl Machine {
     }
 
     /// The address of the instruction after the next one.
+    #[inline]
     pub fn npc(&self) -> u32
         ensures { result ≡ (flat self.now).npc }
     {
@@ -100,6 +104,7 @@ impl Machine {
     }
 
     /// The word at an address of a region that 4 divides.
+    #[inline]
     pub fn load(&self, at: u32) -> u32
         requires { HasWord at }
         ensures { result ≡ word_at (flat self.now).memory at }
@@ -108,6 +113,7 @@ impl Machine {
     }
 
     /// Puts a word at an address of a region that 4 divides.
+    #[inline]
     pub fn store(&mut self, at: u32, word: u32)
         requires { HasWord at }
         ensures { flat self.new ≡ record (flat self.old) { memory = with_word (flat self.old).memory at word } }
@@ -116,6 +122,7 @@ impl Machine {
     }
 
     /// The byte at an address of a region.
+    #[inline]
     pub fn load_byte(&self, at: u32) -> u8
         requires { HasByte at }
         ensures { result ≡ byte_at (flat self.now).memory at }
@@ -124,6 +131,7 @@ impl Machine {
     }
 
     /// Puts a byte at an address of a region.
+    #[inline]
     pub fn store_byte(&mut self, at: u32, byte: u8)
         requires { HasByte at }
         ensures { flat self.new ≡ record (flat self.old) { memory = with_byte (flat self.old).memory at byte } }
@@ -132,6 +140,7 @@ impl Machine {
     }
 
     /// Enters a new frame: its ins are the outs of the one in view, its locals and outs are 0.
+    #[inline]
     pub fn enter_frame(&mut self)
         requires { length (flat self.old).older < 4097 }
         ensures { flat self.new ≡ in_new_frame (flat self.old) }
@@ -140,6 +149,7 @@ impl Machine {
     }
 
     /// Goes back to the youngest of the older frames, whose outs are the ins of the one in view.
+    #[inline]
     pub fn leave_frame(&mut self)
         requires { 0 < length (flat self.old).older }
         ensures { flat self.new ≡ in_older_frame (flat self.old).older (flat self.old) }
@@ -148,6 +158,7 @@ impl Machine {
     }
 
     /// The register Y.
+    #[inline]
     pub fn y(&self) -> u32
         ensures { result ≡ (flat self.now).y }
     {
@@ -155,6 +166,7 @@ impl Machine {
     }
 
     /// Puts a word into Y.
+    #[inline]
     pub fn set_y(&mut self, word: u32)
         ensures { flat self.new ≡ record (flat self.old) { y = word } }
     {
@@ -162,6 +174,7 @@ impl Machine {
     }
 
     /// The condition codes.
+    #[inline]
     pub fn icc(&self) -> Icc
         ensures { result ≡ (flat self.now).icc }
     {
@@ -169,6 +182,7 @@ impl Machine {
     }
 
     /// Puts other condition codes in place of those there.
+    #[inline]
     pub fn set_icc(&mut self, icc: Icc)
         ensures { flat self.new ≡ record (flat self.old) { icc = icc } }
     {
@@ -176,7 +190,8 @@ impl Machine {
     }
 
     // On to the next instruction.
-    pub fn go_on(&mut self)
+    #[inline]
+    pub(crate) fn go_on(&mut self)
         ensures { flat self.new ≡ went (flat self.old) }
     {
         self.pc = self.npc;
@@ -184,7 +199,8 @@ impl Machine {
     }
 
     // To a target, after the instruction in the delay place.
-    pub fn transfer(&mut self, target: u32)
+    #[inline]
+    pub(crate) fn transfer(&mut self, target: u32)
         ensures { flat self.new ≡ transferred target (flat self.old) }
     {
         self.pc = self.npc;
@@ -192,7 +208,8 @@ impl Machine {
     }
 
     // To a target at once.
-    pub fn jump(&mut self, target: u32)
+    #[inline]
+    pub(crate) fn jump(&mut self, target: u32)
         ensures { flat self.new ≡ jumped target (flat self.old) }
     {
         self.pc = target;

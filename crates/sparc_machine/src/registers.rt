@@ -46,6 +46,7 @@ impl Registers {
     }
 
     // The register of this number in the frame in view.
+    #[inline]
     pub fn get(&self, register: u8) -> u32
         requires { register < 32 }
         ensures { result ≡ regs_of self.now register }
@@ -58,6 +59,7 @@ impl Registers {
     }
 
     // Puts a word into a register; register 0 takes none.
+    #[inline]
     pub fn set(&mut self, register: u8, word: u32)
         requires { register < 32 }
         ensures regs { regs_of self.new ≡ with_reg (regs_of self.old) register word }
