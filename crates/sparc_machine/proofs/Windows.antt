@@ -1,9 +1,9 @@
 -- What writes and moves of the frame in view do to the registers and the older frames.
-use Rattle.std.proofs.Common.{◌≡◌, ◌≢◌, ℕ, zero, suc, ◌+◌, ◌-◌, ◌*◌, ◌<◌, ◌≤◌, List, [], ◌∷◌, ◌++◌, length, take, drop, refl, ◌∙◌, ap, arith, slice_index, slice_set, get_or, get_or-set_other}
+use Rattle.std.proofs.Common.{◌^◌, ◌≡◌, ◌≢◌, ℕ, zero, suc, ◌+◌, ◌-◌, ◌*◌, ◌<◌, ◌≤◌, List, [], ◌∷◌, ◌++◌, length, take, drop, refl, ◌∙◌, ap, arith, slice_index, slice_set, get_or, get_or-set_other}
 use Rattle.std.proofs.Math.Path.{fun_ext}
 use Rattle.std.proofs.Math.Seq.{take-append_seam}
 use Rattle.std.proofs.lemmas.Grind.{common_steps, get_or_default_zero}
-use Rattle.sparc_machine.specs.Flat.{with_reg, entered, kept, gone_back}
+use Rattle.sparc_machine.specs.Flat.{AreWords, with_reg, entered, kept, gone_back}
 use Rattle.sparc_machine.specs.Held.{File, regs_of, older_of, frame_at, frames_below, place_of, IsFile, Begun}
 
 pub length-frames_below : (ws : List ℕ) (d : ℕ) → length (frames_below ws d) ≡ d
@@ -105,3 +105,24 @@ unfolding regs_of
 got_windowed f r d whole high within =
     let there : 16 * f.depth + place_of r < length f.windows = omega (arith, place_within f.depth r whole.depth_within high within, whole.windows_len) in
     get_or_default_zero f.windows (16 * f.depth + place_of r) d there ∙ (grind arith)
+
+pub regs_words : (f : File) → ((k : ℕ) → slice_index f.globals k < 2 ^ 32) → ((k : ℕ) → slice_index f.windows k < 2 ^ 32) → (k : ℕ) → regs_of f k < 2 ^ 32
+unfolding regs_of
+regs_words f low high k = grind (arith, low k, high (16 * f.depth + place_of k))
+
+frame_words : (ws : List ℕ) (d k : ℕ) → ((k : ℕ) → slice_index ws k < 2 ^ 32) → frame_at ws d k < 2 ^ 32
+unfolding frame_at
+frame_words ws d k words = grind (arith, words (16 * d + k))
+
+frames_words : (ws : List ℕ) (d : ℕ) → ((k : ℕ) → slice_index ws k < 2 ^ 32) → AreWords (frames_below ws d)
+unfolding frames_below
+frames_words ws zero words = tt
+frames_words ws (suc d) words = (λ k. frame_words ws d k words, frames_words ws d words)
+
+pub older_words : (f : File) → ((k : ℕ) → slice_index f.windows k < 2 ^ 32) → AreWords (older_of f)
+unfolding older_of
+older_words f words = frames_words f.windows f.depth words
+
+pub zero_reads_zero : (f : File) → IsFile f → regs_of f 0 ≡ 0
+unfolding regs_of
+zero_reads_zero f whole = whole.zeroed

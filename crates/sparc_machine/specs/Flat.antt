@@ -1,6 +1,6 @@
 -- What a machine is: its memory, the registers in view, the older frames, and its four special registers.
 -- SPARC Architecture Manual Version 8, chapter 4 (registers), with plain frames in place of a ring of windows.
-use Rattle.std.specs.Prelude.{ℕ, ◌+◌, ◌-◌, ◌&&◌, List, [], ◌∷◌, false, not, nat_eq, nat_lt, if◌then◌else◌}
+use Rattle.std.specs.Prelude.{◌≡◌, ℕ, ◌+◌, ◌-◌, ◌^◌, ◌<◌, ◌≤◌, ◌&&◌, length, List, [], ◌∷◌, false, not, nat_eq, nat_lt, if◌then◌else◌}
 use Rattle.sparc_store.specs.Words.{Words}
 use Rattle.sparc_machine.specs.declared.icc.Icc.{Icc}
 
@@ -59,3 +59,18 @@ opened memory = record {
   y = 0;
   icc = record { negative = false; zero = false; overflow = false; carry = false };
 }
+
+-- whatever a register of these frames holds is a word
+abbrev pub AreWords : List (ℕ → ℕ) → Type 0
+AreWords [] = Unit {0}
+AreWords (frame ∷ frames) = ((k : ℕ) → frame k < 2 ^ 32) × AreWords frames
+
+-- what holds of every machine: register 0 is 0, whatever a register of any frame holds is a word, and at most 4,097 frames are older
+pub record IsWhole (m : Flat) : Type 0 where
+  pub register_0 : m.regs 0 ≡ 0
+  pub words : (k : ℕ) → m.regs k < 2 ^ 32
+  pub older_words : AreWords m.older
+  pub depth_within : length m.older ≤ 4097
+  pub pc_word : m.pc < 2 ^ 32
+  pub npc_word : m.npc < 2 ^ 32
+  pub y_word : m.y < 2 ^ 32

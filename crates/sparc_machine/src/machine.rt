@@ -1,7 +1,7 @@
 // The machine, and what the host may do to it.
 ghost use Rattle.std.specs.Prelude.{◌≡◌, ◌<◌, ◌+◌, ◌^◌, length, IfOk};
 ghost use Rattle.sparc_store.specs.Words.{word_at, with_word, byte_at, with_byte, HasWord, HasByte};
-ghost use Rattle.sparc_machine.specs.Flat.{opened, put, in_new_frame, in_older_frame};
+ghost use Rattle.sparc_machine.specs.Flat.{IsWhole, opened, put, in_new_frame, in_older_frame};
 ghost use Rattle.sparc_machine.specs.Table.{went, transferred, jumped};
 ghost use Rattle.sparc_machine.specs.Held.{flat};
 
@@ -51,6 +51,14 @@ impl Machine {
                 carry: false,
             },
         })
+    }
+
+    /// A law of every machine: register 0 is 0, each register is a word, and there is room for each frame.
+    pub fn is_whole(&self)
+        ensures { IsWhole (flat self.now) }
+    {
+        self.registers.are_words();
+        let _special = (self.pc(), self.npc(), self.y());
     }
 
     /// The register of this number, from 0 to 31, in the frame in view.

@@ -1,6 +1,6 @@
 // The registers of all frames.
-ghost use Rattle.std.specs.Prelude.{◌≡◌, ◌≤◌, ◌<◌, ◌+◌, ◌-◌, ◌*◌, ◌∷◌, ℕ, [], List, length, IfOk, slice_index};
-ghost use Rattle.sparc_machine.specs.Flat.{with_reg, entered, kept, gone_back};
+ghost use Rattle.std.specs.Prelude.{◌≡◌, ◌≤◌, ◌<◌, ◌+◌, ◌-◌, ◌*◌, ◌^◌, ◌∷◌, ℕ, [], List, length, IfOk, slice_index};
+ghost use Rattle.sparc_machine.specs.Flat.{AreWords, with_reg, entered, kept, gone_back};
 ghost use Rattle.sparc_machine.specs.Held.{File, regs_of, older_of, frame_at, place_of, Begun};
 
 use sparc_store::OutOfMemory;
@@ -85,6 +85,17 @@ impl Registers {
         begin_frame(&mut self.windows, 16 * self.depth);
     }
 
+    // A law: register 0 is 0, each register is a word, and there is room for each frame.
+    pub fn are_words(&self)
+        ensures register_0 { regs_of self.now 0 ≡ 0 }
+        ensures words { (k : ℕ) → regs_of self.now k < 2 ^ 32 }
+        ensures older { AreWords (older_of self.now) }
+        ensures depth { length (older_of self.now) ≤ 4097 }
+    {
+        all_are_words(&self.globals);
+        all_are_words(&self.windows);
+    }
+
     // Goes back to the youngest of the older frames.
     pub fn go_back(&mut self)
         requires { 0 < length (older_of self.old) }
@@ -125,3 +136,8 @@ fn begin_frame(windows: &mut [u32], start: usize)
         windows[start + 24 + k] = 0;
     }
 }
+
+// A law: an element of a list of words has 32 bits.
+fn all_are_words(words: &[u32])
+    ensures { (k : ℕ) → slice_index words.now k < 2 ^ 32 }
+{}
