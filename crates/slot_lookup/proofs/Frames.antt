@@ -1,22 +1,21 @@
 -- The stack of a walk as frames, and the work that is left.
-use Rattle.std.proofs.Common.{◌≡◌, ℕ, zero, suc, ◌+◌, ◌-◌, ◌<◌, ◌≤◌, Bool, true, false, ◌*◌, cond, not, eqb, List, [], ◌∷◌, ◌++◌, ◌⊎◌, inl, inr, refl, sym, ap, ◌∙◌, length, get_or, set, drop, map, reverse, arith, length-append}
+use Rattle.std.proofs.Common.{◌≡◌, ℕ, suc, ◌+◌, ◌-◌, ◌<◌, ◌≤◌, Bool, true, false, ◌*◌, cond, not, eqb, List, [], ◌∷◌, ◌++◌, inl, inr, refl, sym, ap, ◌∙◌, length, get_or, set, drop, map, reverse, arith, length-append}
 use Rattle.std.proofs.lemmas.List.{reverse-append, append-nil, length-reverse, length-map}
 use Rattle.std.proofs.lemmas.List.Sums.{sum_by_push, sum_by-set}
 use Rattle.std.proofs.lemmas.Bool.{true≢false}
 use Rattle.std.specs.List.{IsDistinct}
 use Rattle.std.proofs.Math.ListN.{length-set}
-use Rattle.std.specs.Prelude.{sum_by, count_by, flat_map, fold, slice_get, Option, Some, None}
-use Rattle.object_maps.specs.declared.maps.SlotKind.TheVariants.{Parent}
+use Rattle.std.specs.Prelude.{sum_by, count_by, flat_map, fold, Option, Some, None}
 use Rattle.object_maps.specs.Slots.{Slots, parents_in}
 use Rattle.object_maps.specs.Layout.{number_at}
 use Rattle.object_maps.specs.Sound.{IsSound, IsValue}
 use Rattle.sparc_store.specs.Words.{Words}
-use Rattle.source_model.specs.Lookup.{holders, also, found_of, Among, Found, NotUnderstood, One, Ambiguous}
+use Rattle.source_model.specs.Lookup.{holders, also, found_of, Among, Found, NotUnderstood, Ambiguous}
 use Rattle.slot_lookup.specs.Lookup.{has_at, parents_at, slots_of}
 use Rattle.slot_lookup.specs.Walk.{base_of, from_parents}
 use Rattle.slot_lookup.proofs.Holds.{Among-left, Among-right, is_in}
 use Rattle.slot_lookup.proofs.Going.{Frame, Going, frame_done, seen_again, first_met, second_met, go_down, few, none_distinct, distinct_more}
-use Rattle.slot_lookup.proofs.Marks.{Marked, marked_push, marked_start, turned, turned-push, length-turned, in-turned, is_value, place_among, object_at}
+use Rattle.slot_lookup.proofs.Marks.{Marked, marked_push, marked_start, turned, turned-push, length-turned, is_value}
 
 abbrev pub frame_of : List Slots → Words → ℕ × ℕ → Frame
 frame_of maps mem f = (f.0, parents_in (drop f.1 (slots_of maps mem f.0)))

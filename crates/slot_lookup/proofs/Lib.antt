@@ -4,3 +4,4 @@ pub mod SlotLemmas
 pub mod Marks
 pub mod Frames
 pub mod Steps
+pub mod Answering

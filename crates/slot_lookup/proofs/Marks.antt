@@ -1,14 +1,14 @@
 -- The marks of a walk, by object numbers, and the trail of the objects that are marked.
-use Rattle.std.proofs.Common.{◌≡◌, ℕ, zero, suc, ◌+◌, ◌-◌, ◌*◌, ◌/◌, ◌<◌, ◌≤◌, Bool, true, false, cond, eqb, List, [], ◌∷◌, ◌++◌, ◌⊎◌, inl, inr, refl, sym, ap, subst, ◌∙◌, length, get_or, set, drop, arith, add-one, drop-cons}
-use Rattle.std.proofs.lemmas.Bool.{cases_Bool, or_cases, or_right, or_left, or_from, or_parts, eqb-true, eq-eqb, true≢false, ne_eqb, cases_eq}
+use Rattle.std.proofs.Common.{◌≡◌, ℕ, zero, suc, ◌+◌, ◌<◌, ◌≤◌, Bool, true, false, eqb, List, [], ◌∷◌, ◌++◌, ◌⊎◌, inl, inr, refl, sym, ap, ◌∙◌, length, get_or, set, arith}
+use Rattle.std.proofs.lemmas.Bool.{cases_Bool, or_cases, or_parts, eqb-true, eq-eqb, true≢false, cases_eq}
 use Rattle.std.proofs.lemmas.Grind.{common_steps}
 use Rattle.std.proofs.lemmas.Option.{slice_get_within}
 use Rattle.std.proofs.Math.ListN.{length-set}
 use Rattle.std.specs.Prelude.{Option, Some, None, slice_get}
-use Rattle.object_maps.specs.Slots.{Slots, slots_in}
-use Rattle.object_maps.specs.Layout.{map_at, number_at}
+use Rattle.object_maps.specs.Slots.{Slots}
+use Rattle.object_maps.specs.Layout.{number_at}
 use Rattle.object_maps.specs.Sound.{IsSound, IsObject, IsValue}
-use Rattle.sparc_store.specs.Words.{Words, word_at}
+use Rattle.sparc_store.specs.Words.{Words}
 use Rattle.source_model.specs.Lookup.{Among}
 use Rattle.slot_lookup.specs.Walk.{base_of, seen_in}
 use Rattle.slot_lookup.proofs.Holds.{is_in}
@@ -80,31 +80,6 @@ mark_other marks n m b ne = grind (arith, common_steps)
 
 pub mark_same : (marks : List Bool) (n m : ℕ) (b : Bool) → n < length marks → m ≡ n → get_or (set marks n b) m false ≡ b
 mark_same marks n m b lt e = grind (arith, common_steps)
-
--- one mark less
-pub clear_step : (mem : Words) (marks : List Bool) (trail : List ℕ) (i : ℕ) → i < length trail → number_at mem (get_or trail i 0) < length marks
-    → ((n : ℕ) → get_or marks n false ≡ true → (x : ℕ) × (Among x (drop i trail) × (number_at mem x ≡ n)))
-    → (n : ℕ) → get_or (set marks (number_at mem (get_or trail i 0)) false) n false ≡ true → (x : ℕ) × (Among x (drop (i + 1) trail) × (number_at mem x ≡ n))
-clear_step mem marks trail i lt here old n e = elim (cases_eq n (number_at mem (get_or trail i 0))) [
-  | inl same ↦ absurd (true≢false (sym e ∙ mark_same marks (number_at mem (get_or trail i 0)) n false here same))
-  | inr other ↦
-      let r = old n (sym (mark_other marks (number_at mem (get_or trail i 0)) n false other) ∙ e) in
-      let cut : drop i trail ≡ get_or trail i 0 ∷ drop (i + 1) trail = rw (add-one, drop-cons trail i 0) refl in
-      elim (rw cut at r.1.0) [ inl f ↦ absurd (other (sym r.1.1 ∙ ap (number_at mem) f)) | inr a ↦ (r.0, (a, r.1.1)) ]
-]
-
-none_left : (xs : List ℕ) (i x : ℕ) → length xs ≤ i → Among x (drop i xs) → ⊥
-none_left [] zero x h a = a
-none_left [] (suc i) x h a = a
-none_left (y ∷ xs) zero x h a = absurd (omega arith)
-none_left (y ∷ xs) (suc i) x h a = none_left xs i x (omega arith) a
-
-pub all_clear : (mem : Words) (marks : List Bool) (trail : List ℕ) (i : ℕ) → length trail ≤ i
-    → ((n : ℕ) → get_or marks n false ≡ true → (x : ℕ) × (Among x (drop i trail) × (number_at mem x ≡ n))) → (n : ℕ) → get_or marks n false ≡ false
-all_clear mem marks trail i past old n = elim (cases_Bool (get_or marks n false)) [
-  | inl e ↦ let r = old n e in absurd (none_left trail i r.0 past r.1.0)
-  | inr e ↦ e
-]
 
 module _ (maps : List Slots) (mem : Words) (objects : List ℕ) (sound : IsSound maps mem objects) where
   pub object_at : (x : ℕ) → Among x objects → (n : ℕ) × ((slice_get objects n ≡ Some x) × IsObject maps mem n x × (number_at mem x ≡ n))

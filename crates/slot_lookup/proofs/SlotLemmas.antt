@@ -1,5 +1,5 @@
 -- Slots by their places.
-use Rattle.std.proofs.Common.{◌≡◌, ℕ, zero, suc, ◌+◌, ◌<◌, ◌≤◌, List, [], ◌∷◌, length, drop, refl, sym, ap, ◌∙◌, arith, add-one}
+use Rattle.std.proofs.Common.{◌≡◌, ℕ, zero, suc, ◌<◌, ◌≤◌, [], ◌∷◌, length, drop, refl, sym, ap, ◌∙◌, arith, add-one}
 use Rattle.std.specs.List.{cons_option}
 use Rattle.std.specs.Prelude.{slice_get, option_map, Option, Some, None}
 use Rattle.std.proofs.lemmas.Option.{slice_get_within}

@@ -1,20 +1,19 @@
 -- The steps of the loop, over what its code knows.
-use Rattle.std.proofs.Common.{◌≡◌, ℕ, suc, ◌+◌, ◌<◌, ◌≤◌, Bool, true, false, List, [], ◌∷◌, ◌++◌, ◌⊎◌, inl, inr, refl, sym, ap, ◌∙◌, length, get_or, set, drop, map, reverse, arith, length-append, append_assoc}
+use Rattle.std.proofs.Common.{◌≡◌, ℕ, suc, ◌+◌, ◌<◌, ◌≤◌, Bool, true, false, List, [], ◌∷◌, ◌++◌, inl, inr, sym, length, get_or, set, drop, arith, length-append}
 use Rattle.std.proofs.Math.ListN.{length-set}
-use Rattle.std.specs.Prelude.{fold, Option, Some, None, slice_get}
+use Rattle.std.specs.Prelude.{Option, Some, None}
 use Rattle.object_maps.specs.Slots.{Slots, parents_in}
 use Rattle.object_maps.specs.Layout.{number_at}
 use Rattle.object_maps.specs.Sound.{IsSound, IsValue}
 use Rattle.sparc_store.specs.Words.{Words, HasWord}
-use Rattle.source_model.specs.Lookup.{also, Among, Found, NotUnderstood, One, Ambiguous}
+use Rattle.source_model.specs.Lookup.{Among, Ambiguous}
 use Rattle.slot_lookup.specs.Lookup.{has_at, slots_of}
-use Rattle.slot_lookup.specs.Walk.{base_of, from_parents, seen_in, IsNext, AreObjects, told}
+use Rattle.slot_lookup.specs.Walk.{base_of, from_parents, seen_in, IsNext}
 use Rattle.slot_lookup.specs.declared.slots.Next.TheVariants as next
-use Rattle.slot_lookup.specs.declared.walk.Met.TheVariants as met
 use Rattle.slot_lookup.proofs.Holds.{is_in, Among-right}
 use Rattle.slot_lookup.proofs.Going.{few, so_far, distinct_more}
-use Rattle.slot_lookup.proofs.Marks.{Marked, turned, length-turned, is_value, number_within, place_among, object_at, seen_true, seen_false, unmarked, Among-push, marked_push}
-use Rattle.slot_lookup.proofs.Frames.{Walking, start_walk, stack_fits, trail_fits, value_there, done_step, other_step, again_step, first_step, second_step, down_step}
+use Rattle.slot_lookup.proofs.Marks.{turned, length-turned, is_value, number_within, place_among, object_at, seen_true, seen_false, Among-push, marked_push}
+use Rattle.slot_lookup.proofs.Frames.{Walking, start_walk, stack_fits, value_there, done_step, other_step, again_step, first_step, second_step, down_step}
 
 module _ (maps : List Slots) (mem : Words) (name start : ℕ) (skip : Option ℕ) (levels : ℕ) where
   pub record Under (marks : List Bool) (stack : List (ℕ × ℕ)) (trail : List ℕ) (first : Option ℕ) : Type 0 where

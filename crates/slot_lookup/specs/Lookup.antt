@@ -1,5 +1,5 @@
 -- Lookup over maps and words: the definition of lookup, where an object is its word.
-use Rattle.std.specs.Prelude.{◌≡◌, ◌+◌, ℕ, Bool, List, [], Option, Some, None, is_some, slice_get}
+use Rattle.std.specs.Prelude.{◌+◌, ℕ, Bool, List, [], Option, Some, None, is_some}
 use Rattle.source_model.specs.Lookup.{holders, holders_from_all, found_of, Found as Met, NotUnderstood as none_met, One as one_met, Ambiguous as two_met}
 use Rattle.object_maps.specs.declared.maps.SlotKind.{SlotKind}
 use Rattle.object_maps.specs.declared.maps.SlotKind.TheVariants.{Constant, Field, Assign, Parent, Method}

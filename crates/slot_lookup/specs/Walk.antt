@@ -1,5 +1,5 @@
 -- The parts of a walk.
-use Rattle.std.specs.Prelude.{◌≡◌, ℕ, ◌+◌, ◌<◌, ◌==◌, Bool, true, false, ◌||◌, List, [], ◌∷◌, length, drop, flat_map, Option, Some, None, slice_index_or, slice_get}
+use Rattle.std.specs.Prelude.{◌≡◌, ℕ, ◌+◌, ◌<◌, ◌==◌, Bool, false, ◌||◌, List, [], ◌∷◌, length, drop, flat_map, Option, Some, None, slice_index_or, slice_get}
 use Rattle.source_model.specs.Lookup.{holders, found_of, Found as FoundWords, NotUnderstood as none_found, One as one_found, Ambiguous as two_found}
 use Rattle.object_maps.specs.Slots.{Slots, parents_in}
 use Rattle.object_maps.specs.declared.maps.SlotKind.{SlotKind}

@@ -1,4 +1,3 @@
-use Rattle.std.proofs.Common.{sym, ◌≡◌}
 use Rattle.slot_lookup.specs.Lookup.{slots_of}
 use Rattle.slot_lookup.proofs.SlotLemmas.{nothing_left, next_there}
 use Rattle.slot_lookup.proofs.slots.next_at.Goals as goal

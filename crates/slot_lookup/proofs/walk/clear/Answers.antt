@@ -1,4 +1,4 @@
-use Rattle.std.proofs.Common.{get_or, arith, length}
+use Rattle.std.proofs.Common.{get_or, arith}
 use Rattle.slot_lookup.proofs.Marks.{Among-get}
 use Rattle.slot_lookup.proofs.walk.clear.Goals as goal
 

@@ -1,9 +1,7 @@
-use Rattle.std.proofs.Common.{◌≡◌, ◌++◌, ◌∷◌, [], ℕ, length, sym, ap, ◌∙◌, refl, arith, length-append}
-use Rattle.std.specs.Prelude.{Some, None}
-use Rattle.source_model.specs.Lookup.{One, NotUnderstood}
-use Rattle.slot_lookup.proofs.Frames.{work_done, work_again, work_first, work_down}
+use Rattle.std.proofs.Common.{◌++◌, ◌∷◌, [], length, sym, ap, ◌∙◌, refl, arith, length-append}
+use Rattle.slot_lookup.proofs.Frames.{work_again, work_first, work_down}
 use Rattle.slot_lookup.proofs.Marks.{unmarked}
-use Rattle.slot_lookup.proofs.Steps.{begin, done, other, again, met_first, met_second, went_down, trail_room, stack_room, marked_numbered, marked_covers, numbered, first_is_object, ended, value_here, value_next, word_here, number_room}
+use Rattle.slot_lookup.proofs.Steps.{begin, done, other, again, met_first, met_second, went_down, trail_room, stack_room, marked_numbered, marked_covers, numbered, first_is_object, value_here, value_next, word_here, number_room}
 use Rattle.slot_lookup.proofs.walk.walk_from.Goals as goal
 
 pub loop-x-init : goal.loop-x-init
