@@ -34,9 +34,15 @@ pub enum Node {
     /// The value of an empty block: pends nil.
     Nil,
     /// A local, `up` bodies out: pends its value.
-    Read { up: u8, slot: u8 },
+    Read {
+        up: u8,
+        slot: u8,
+    },
     /// An assignment of a local, `up` bodies out: takes a value, sets the local, pends the receiver.
-    Store { up: u8, slot: u8 },
+    Store {
+        up: u8,
+        slot: u8,
+    },
     /// A message with a receiver: takes arguments and receiver.
     Send(Selector),
     /// A message to the activation's own receiver: takes arguments.
@@ -44,7 +50,10 @@ pub enum Node {
     /// `resend.m`: takes arguments, looks in the parents of the method holder.
     Resend(Selector),
     /// `p.m`: takes arguments, looks in one parent of the method holder.
-    Directed { parent: Name, sel: Selector },
+    Directed {
+        parent: Name,
+        sel: Selector,
+    },
     /// A primitive: takes its handler, its arguments and, where it isn't implied, its receiver.
     Prim {
         name: Name,

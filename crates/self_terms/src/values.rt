@@ -1,5 +1,7 @@
 // Values, and the numbers of bodies and maps.
 
+use crate::names::Name;
+
 /// The number of a method's or block's body, from 1 in the order of opening tokens.
 #[derive(Clone, Copy, PartialEq, Eq, Debug)]
 pub struct BodyId(pub u32);
@@ -7,6 +9,13 @@ pub struct BodyId(pub u32);
 /// The number of a map. `MapId(0)` is that of the integers.
 #[derive(Clone, Copy, PartialEq, Eq, Debug)]
 pub struct MapId(pub u32);
+
+/// A lookup's look at a map for a name.
+#[derive(Clone, Copy, PartialEq, Eq, Debug)]
+pub struct Dep {
+    pub map: MapId,
+    pub name: Name,
+}
 
 /// An integer within 30 bits, an object by its number, or a block: its body and the activation that made it.
 #[derive(Clone, Copy, PartialEq, Eq, Debug)]

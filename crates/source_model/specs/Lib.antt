@@ -2,3 +2,5 @@ pub mod State
 pub mod Step
 pub mod Lines
 pub mod Script
+pub mod Objects
+pub mod Lookup
