@@ -1,5 +1,5 @@
 -- A run of a sum of steps.
-use Rattle.std.proofs.Common.{◌≡◌, ℕ, zero, suc, ◌+◌, refl, ap, ◌∙◌, arith}
+use Rattle.std.proofs.Common.{◌≡◌, ℕ, zero, suc, ◌+◌, ap, ◌∙◌, arith}
 use Rattle.source_model.specs.State.{State}
 use Rattle.source_model.specs.Step.{run, step}
 

@@ -1,11 +1,11 @@
 -- The lines of a transcript.
-use Rattle.std.specs.Prelude.{ℕ, suc, ◌+◌, List, [], ◌∷◌, ◌++◌, Option, Some, None, ℤ, pos, negsuc, slice_get, codes, decimal, nat_eq, if◌then◌else◌}
+use Rattle.std.specs.Prelude.{ℕ, ◌+◌, List, [], ◌∷◌, ◌++◌, Option, Some, ℤ, pos, negsuc, slice_get, codes, decimal}
 use Rattle.self_terms.specs.declared.nodes.Place.{Place}
 use Rattle.self_terms.specs.declared.values.Value.{Value}
 use Rattle.self_terms.specs.declared.values.Value.TheVariants as values
 use Rattle.self_terms.specs.declared.errors.ErrorName.{ErrorName}
 use Rattle.self_terms.specs.declared.errors.ErrorName.TheVariants as errors
-use Rattle.source_model.specs.State.{Activation, Activity, Running, Answered, Failed, State}
+use Rattle.source_model.specs.State.{Activity, Running, Answered, Failed, State}
 use Rattle.source_model.specs.Step.{place_at}
 
 -- the digits of an integer, with a minus sign below 0

@@ -1,6 +1,6 @@
 -- The commands of a script, and its transcript over a world.
 use Rattle.std.specs.Prelude.{ℕ, ◌+◌, List, [], ◌∷◌, ◌++◌, length}
-use Rattle.source_model.specs.State.{Body, Activation, Activity, Running, State, opened}
+use Rattle.source_model.specs.State.{Body, Activation, Running, State}
 use Rattle.source_model.specs.Step.{run}
 use Rattle.source_model.specs.Lines.{activity_line, run_line}
 

@@ -1,0 +1,5 @@
+pub mod Numbers
+pub mod Fronts
+pub mod CoreText
+pub mod FirstWorld
+pub mod FirstScript

@@ -1,0 +1,90 @@
+// Fronts of texts, and decimal
+ghost use Rattle.std.specs.Prelude.{◌≡◌, ◌≤◌, length};
+ghost use Rattle.std.specs.Option.{option_copied};
+ghost use Rattle.std.specs.List.{list_all};
+ghost use Rattle.std.specs.Char.{is_ascii_digit};
+ghost use Rattle.first_text.specs.Numbers.{number, is_plain, plain_number};
+ghost use Rattle.first_text.specs.Fronts.{behind, digits, is_end};
+
+/// What follows `front` in a text that begins with it.
+pub fn behind<'a>(front: &[u8], text: &'a [u8]) -> Option<&'a [u8]>
+    ensures { option_copied result ≡ behind front.now text.now }
+{
+    text.strip_prefix(front)
+}
+
+/// The digits with which a text begins.
+pub fn digits(text: &[u8]) -> &[u8]
+    ensures { result.now ≡ digits text.now }
+{
+    let count = digit_count(text);
+    &text[..count]
+}
+
+// How many digits a text begins with.
+fn digit_count(text: &[u8]) -> usize
+    ensures length { result ≡ length (digits text.now) }
+    ensures within { result ≤ length text.now }
+{
+    text.iter().take_while(|b| b.is_ascii_digit()).count()
+}
+
+/// Nothing, or one newline.
+pub fn is_end(text: &[u8]) -> bool
+    ensures { result ≡ is_end text.now }
+{
+    match text {
+        [] => true,
+        [byte] => *byte == b'\n',
+        _ => false,
+    }
+}
+
+/// The number that at most ten digits stand for.
+pub fn number(digits: &[u8]) -> u64
+    requires { length digits.now ≤ 10 }
+    ensures { result ≡ number digits.now }
+{
+    let mut value = 0;
+    for digit in digits {
+        value = 10 * value + digit.saturating_sub(b'0') as u64;
+    }
+    value
+}
+
+// No byte but digits.
+fn all_digits(text: &[u8]) -> bool
+    ensures { result ≡ list_all is_ascii_digit text.now }
+{
+    text.iter().all(|b| b.is_ascii_digit())
+}
+
+// One digit or more, without leading zeros.
+fn is_plain(text: &[u8]) -> bool
+    ensures { result ≡ is_plain text.now }
+{
+    if text.is_empty() {
+        return false;
+    }
+    if !all_digits(text) {
+        return false;
+    }
+    if text[0] == b'0' {
+        return text.len() == 1;
+    }
+    true
+}
+
+/// The number that a text of one to ten digits without leading zeros stands for, where it is at most `most`.
+pub fn plain_number(text: &[u8], most: u64) -> Option<u64>
+    ensures { result ≡ plain_number text.now most }
+{
+    if !is_plain(text) || text.len() > 10 {
+        return None;
+    }
+    let number = number(text);
+    if number > most {
+        return None;
+    }
+    Some(number)
+}

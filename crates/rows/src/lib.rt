@@ -1,0 +1,7 @@
+// The rows: what the whole program writes for a world and a script, and its status, over devices in memory.
+//
+// It has tests alone. The expected texts and statuses were worked out by hand from the language's rules.
+#![tactic(auto)]
+
+#[cfg(test)]
+mod tests;

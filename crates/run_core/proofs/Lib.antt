@@ -1,0 +1,13 @@
+pub mod Going
+pub mod Standing
+pub mod Poll
+pub mod Kept
+pub mod Ints
+pub mod Stretches
+pub mod Depth
+pub mod Nodes
+pub mod Course
+pub mod Emitted
+pub mod Insns
+pub mod Driven
+pub mod Finished

@@ -1,0 +1,10 @@
+pub mod Code
+pub mod Hosted
+pub mod Shown
+pub mod Going
+pub mod Standing
+pub mod Plain
+pub mod Course
+pub mod RunText
+pub mod Emitted
+pub mod Ran

@@ -1,0 +1,4 @@
+pub mod Words
+pub mod Tasks
+pub mod Answer
+pub mod Headline

@@ -1,0 +1,282 @@
+// The call that does all that the program does.
+ghost use Rattle.std.specs.Prelude.{◌≡◌, ◌⊎◌, ◌≤◌, ◌↔◌, List, ℕ, [], ◌∷◌, Some, None, IsSome, IsNone, IfSome, IfOk, OnOk, OnErr, IsErrOf, map, string_bytes};
+ghost use Rattle.io_ports.specs.Causes.{Rose, Takes, TakesFront};
+ghost use Rattle.source_model.specs.State.{opened};
+ghost use Rattle.source_model.specs.Script.{SpawnMain, Run, spawned, transcript};
+ghost use Rattle.source_model.specs.Step.{run};
+ghost use Rattle.source_model.specs.Lines.{run_line};
+ghost use Rattle.first_text.specs.FirstWorld.{IsFirst, first_world};
+ghost use Rattle.first_text.specs.FirstScript.{first_script};
+ghost use Rattle.run_core.specs.Ran.{Ran};
+ghost use Rattle.self_debugger.specs.declared.top.Stop.TheVariants.{OutOfMemory, Write};
+ghost use Rattle.self_debugger.specs.Words.{world_name};
+ghost use Rattle.self_debugger.specs.Answer.{answer, run_answer, told, script_answer};
+ghost use Rattle.self_debugger.specs.Headline.{Outcome, TellsWorld, IsAccepted, HasReadFault, IsSession};
+
+use crate::lines::{activity_line, run_line};
+use crate::words::{Task, task_of};
+use first_text::{FirstBody, first_script, first_world};
+use io_ports::{Failed, Files, ReadErr, Sink, Source, read_all, read_file, write_all};
+use run_core::{RunEnd, run_first};
+use std::alloc::{AllocError, Global};
+
+// The most bytes of a world file and of a script.
+const LIMIT: usize = 1048576;
+
+/// How a call ended: the status of the program, and with status 0 the session that is left.
+#[derive(Drop)]
+pub struct Ended {
+    pub status: u8,
+    pub session: Option<RunEnd>,
+}
+
+/// All that the program does. Reads the words, then the world file, then the script from the source to its end, runs
+/// the commands, and writes a line for each.
+///
+/// Status 0: the whole script was run. 1: the words aren't accepted. 2: the world is refused. 3: the script is
+/// refused. 4: a read failed. 5: a write failed. 6: want of memory.
+pub fn selfdb<F: Files, S: Source, K: Sink>(
+    alloc: Global,
+    words: &[String],
+    files: &mut F,
+    script: &mut S,
+    out: &mut K,
+) -> Ended
+    // With status 0 to 3 the text and the status are the answer; with 4 to 6 a front of that text was written.
+    ensures headline { (w t : List ℕ) → TellsWorld (map string_bytes words.now) (F.bytes_of files.old) w → S.left script.old ≡ Some t
+        → Outcome result.status (answer (map string_bytes words.now) w t) (K.taken out.old) (K.taken out.new) }
+    ensures range { result.status ≤ 6 }
+    ensures read { result.status ≡ 4 → HasReadFault (map string_bytes words.now) (F.bytes_of files.old)
+        (λ n. Rose (F.faults_of files.old n) (F.faults_of files.new n)) (Rose (S.faults script.old) (S.faults script.new)) }
+    ensures write { result.status ≡ 5 → Rose (K.faults out.old) (K.faults out.new) }
+    // Where no count of faults rose, the status is that of the answer or want of memory.
+    ensures complete { ((n : List ℕ) → world_name (map string_bytes words.now) ≡ Some n → ¬ Rose (F.faults_of files.old n) (F.faults_of files.new n))
+        → ¬ Rose (S.faults script.old) (S.faults script.new) → ¬ Rose (K.faults out.old) (K.faults out.new)
+        → (result.status ≤ 3) ⊎ (result.status ≡ 6) }
+    // Words that name no world file are answered before anything is read, and a refused world before the script is.
+    ensures unasked { world_name (map string_bytes words.now) ≡ None → (files.new ≡ files.old) × (script.new ≡ script.old) }
+    ensures unread { result.status ≡ 2 → script.new ≡ script.old }
+    ensures session { IsSome result.session ↔ (result.status ≡ 0) }
+    ensures shown { (w t : List ℕ) → TellsWorld (map string_bytes words.now) (F.bytes_of files.old) w → S.left script.old ≡ Some t
+        → IfSome result.session (IsSession w t) }
+{
+    serve_words(alloc, words, files, script, out)
+}
+
+// The answer to the words.
+fn serve_words<F: Files, S: Source, K: Sink>(
+    alloc: Global,
+    words: &[String],
+    files: &mut F,
+    script: &mut S,
+    out: &mut K,
+) -> Ended
+    ensures headline { (w t : List ℕ) → TellsWorld (map string_bytes words.now) (F.bytes_of files.old) w → S.left script.old ≡ Some t
+        → Outcome result.status (answer (map string_bytes words.now) w t) (K.taken out.old) (K.taken out.new) }
+    ensures range { result.status ≤ 6 }
+    ensures read { result.status ≡ 4 → HasReadFault (map string_bytes words.now) (F.bytes_of files.old)
+        (λ n. Rose (F.faults_of files.old n) (F.faults_of files.new n)) (Rose (S.faults script.old) (S.faults script.new)) }
+    ensures write { result.status ≡ 5 → Rose (K.faults out.old) (K.faults out.new) }
+    ensures unasked { world_name (map string_bytes words.now) ≡ None → (files.new ≡ files.old) × (script.new ≡ script.old) }
+    ensures unread { result.status ≡ 2 → script.new ≡ script.old }
+    ensures session { IsSome result.session ↔ (result.status ≡ 0) }
+    ensures shown { (w t : List ℕ) → TellsWorld (map string_bytes words.now) (F.bytes_of files.old) w → S.left script.old ≡ Some t
+        → IfSome result.session (IsSession w t) }
+{
+    match task_of(words) {
+        None => refuse(out, b"usage: selfdb run WORLD | check WORLD | drill N\n", 1),
+        Some(Task::Run(name)) => serve_world(alloc, name, files, script, out),
+        Some(Task::Check(_)) => refuse(out, b"not built\n", 1),
+        Some(Task::Drill(_)) => refuse(out, b"not built\n", 1),
+    }
+}
+
+// Writes a line that ends the call.
+fn refuse<K: Sink>(out: &mut K, line: &[u8], status: u8) -> Ended
+    requires some { 1 ≤ status }
+    requires few { status ≤ 3 }
+    ensures outcome { Outcome result.status (line.now, status) (K.taken out.old) (K.taken out.new) }
+    ensures write { result.status ≡ 5 → Rose (K.faults out.old) (K.faults out.new) }
+    ensures which { (result.status ≡ status) ⊎ (result.status ≡ 5) }
+    ensures session { IsNone result.session }
+{
+    match write_all(out, line) {
+        Ok(()) => without_session(status),
+        Err(_) => without_session(5),
+    }
+}
+
+// An end without a session.
+fn without_session(status: u8) -> Ended
+    ensures status { result.status ≡ status }
+    ensures session { IsNone result.session }
+{
+    Ended {
+        status,
+        session: None,
+    }
+}
+
+// Reads the world file of this name, and goes on.
+fn serve_world<F: Files, S: Source, K: Sink>(
+    alloc: Global,
+    name: &str,
+    files: &mut F,
+    script: &mut S,
+    out: &mut K,
+) -> Ended
+    ensures outcome { (w t : List ℕ) → F.bytes_of files.old name.now ≡ Some w → S.left script.old ≡ Some t
+        → Outcome result.status (run_answer w t) (K.taken out.old) (K.taken out.new) }
+    ensures range { result.status ≤ 6 }
+    ensures not_one { ¬ (result.status ≡ 1) }
+    ensures read { result.status ≡ 4 → Rose (F.faults_of files.old name.now) (F.faults_of files.new name.now)
+        ⊎ (Rose (S.faults script.old) (S.faults script.new) × ((w : List ℕ) → F.bytes_of files.old name.now ≡ Some w → IsAccepted w)) }
+    ensures write { result.status ≡ 5 → Rose (K.faults out.old) (K.faults out.new) }
+    ensures unread { result.status ≡ 2 → script.new ≡ script.old }
+    ensures session { IsSome result.session ↔ (result.status ≡ 0) }
+    ensures shown { (w t : List ℕ) → F.bytes_of files.old name.now ≡ Some w → S.left script.old ≡ Some t
+        → IfSome result.session (IsSession w t) }
+{
+    match read_file(alloc, files, name, LIMIT) {
+        Ok(world) => build_world(alloc, &world, script, out),
+        Err(ReadErr::TooLong) => refuse(out, b"world refused TooLong\n", 2),
+        Err(ReadErr::Fault) => without_session(4),
+        Err(ReadErr::OutOfMemory) => without_session(6),
+    }
+}
+
+// Builds the world of these bytes, and goes on.
+fn build_world<S: Source, K: Sink>(
+    alloc: Global,
+    world: &[u8],
+    script: &mut S,
+    out: &mut K,
+) -> Ended
+    ensures outcome { (t : List ℕ) → S.left script.old ≡ Some t
+        → Outcome result.status (told (first_world world.now) t) (K.taken out.old) (K.taken out.new) }
+    ensures range { result.status ≤ 6 }
+    ensures not_one { ¬ (result.status ≡ 1) }
+    ensures read { result.status ≡ 4 → Rose (S.faults script.old) (S.faults script.new) × IsSome (first_world world.now) }
+    ensures write { result.status ≡ 5 → Rose (K.faults out.old) (K.faults out.new) }
+    ensures unread { result.status ≡ 2 → script.new ≡ script.old }
+    ensures session { IsSome result.session ↔ (result.status ≡ 0) }
+    ensures shown { (t : List ℕ) → S.left script.old ≡ Some t → IfSome result.session (IsSession world.now t) }
+{
+    match first_world(alloc, world) {
+        Ok(Some(main)) => serve_script(alloc, &main, script, out),
+        Ok(None) => refuse(out, b"not built\n", 2),
+        Err(_) => without_session(6),
+    }
+}
+
+// Reads the script of a world whose method `main` has this body, and goes on.
+fn serve_script<S: Source, K: Sink>(
+    alloc: Global,
+    main: &FirstBody,
+    script: &mut S,
+    out: &mut K,
+) -> Ended
+    requires { IsFirst main.now }
+    ensures outcome { (t : List ℕ) → S.left script.old ≡ Some t
+        → Outcome result.status (told (Some main.now) t) (K.taken out.old) (K.taken out.new) }
+    ensures range { result.status ≤ 6 }
+    ensures later { ¬ (result.status ≡ 1) × ¬ (result.status ≡ 2) }
+    ensures read { result.status ≡ 4 → Rose (S.faults script.old) (S.faults script.new) }
+    ensures write { result.status ≡ 5 → Rose (K.faults out.old) (K.faults out.new) }
+    ensures session { IsSome result.session ↔ (result.status ≡ 0) }
+    ensures shown { (t : List ℕ) → S.left script.old ≡ Some t
+        → IfSome result.session (λ e. (n : ℕ) × (first_script t ≡ Some n) × Ran main.now n e) }
+{
+    match read_all(alloc, script, LIMIT) {
+        Ok(text) => serve_text(alloc, main, &text, out),
+        Err(ReadErr::TooLong) => refuse(out, b"script refused TooLong\n", 3),
+        Err(ReadErr::Fault) => without_session(4),
+        Err(ReadErr::OutOfMemory) => without_session(6),
+    }
+}
+
+// Answers the script of these bytes.
+fn serve_text<K: Sink>(alloc: Global, main: &FirstBody, text: &[u8], out: &mut K) -> Ended
+    requires { IsFirst main.now }
+    ensures outcome { Outcome result.status (script_answer main.now (first_script text.now)) (K.taken out.old) (K.taken out.new) }
+    ensures range { result.status ≤ 6 }
+    ensures later { ¬ (result.status ≡ 1) × ¬ (result.status ≡ 2) × ¬ (result.status ≡ 4) }
+    ensures write { result.status ≡ 5 → Rose (K.faults out.old) (K.faults out.new) }
+    ensures session { IsSome result.session ↔ (result.status ≡ 0) }
+    ensures shown { IfSome result.session (λ e. (n : ℕ) × (first_script text.now ≡ Some n) × Ran main.now n e) }
+{
+    match first_script(text) {
+        None => refuse(out, b"not built\n", 3),
+        Some(n) => serve_run(alloc, main, n, out),
+    }
+}
+
+// Runs the two commands of an accepted script.
+fn serve_run<K: Sink>(alloc: Global, main: &FirstBody, n: u64, out: &mut K) -> Ended
+    requires body { IsFirst main.now }
+    requires few { n ≤ 1000000000 }
+    ensures outcome { Outcome result.status (transcript main.now (SpawnMain ∷ Run n ∷ []) opened, 0) (K.taken out.old) (K.taken out.new) }
+    ensures which { (result.status ≡ 0) ⊎ (result.status ≡ 5) ⊎ (result.status ≡ 6) }
+    ensures write { result.status ≡ 5 → Rose (K.faults out.old) (K.faults out.new) }
+    ensures session { IsSome result.session ↔ (result.status ≡ 0) }
+    ensures shown { IfSome result.session (λ e. Ran main.now n e) }
+{
+    match commands(alloc, main, n, out) {
+        Ok(session) => Ended {
+            status: 0,
+            session: Some(session),
+        },
+        Err(Stop::Write) => without_session(5),
+        Err(Stop::OutOfMemory) => without_session(6),
+    }
+}
+
+// Why the commands weren't all done.
+enum Stop {
+    Write,
+    OutOfMemory,
+}
+
+impl From<AllocError> for Stop {
+    ghost from_gives = { λ _ e. e ≡ OutOfMemory };
+
+    fn from(_: AllocError) -> Self {
+        Stop::OutOfMemory
+    }
+}
+
+impl From<Failed> for Stop {
+    ghost from_gives = { λ _ e. e ≡ Write };
+
+    fn from(_: Failed) -> Self {
+        Stop::Write
+    }
+}
+
+// What a run of the body's first activity leaves, and the line of the run.
+fn run_main(alloc: Global, main: &FirstBody, n: u64) -> Result<(RunEnd, Vec<u8>), AllocError>
+    requires body { IsFirst main.now }
+    requires few { n ≤ 1000000000 }
+    ensures ran { IfOk result (λ r. Ran main.now n r.0) }
+    ensures line { IfOk result (λ r. r.1.items ≡ run_line (run n (spawned main.now opened))) }
+{
+    let session = run_first(alloc, &main.nodes, &main.places, n)?;
+    let line = run_line(alloc, &session.line(&main.places))?;
+    Ok((session, line))
+}
+
+// The commands `spawn main` and `run N`. Each writes its line in one call before the next one begins.
+fn commands<K: Sink>(alloc: Global, main: &FirstBody, n: u64, out: &mut K) -> Result<RunEnd, Stop>
+    requires body { IsFirst main.now }
+    requires few { n ≤ 1000000000 }
+    ensures all { OnOk result (Takes (K.taken out.old) (K.taken out.new) (transcript main.now (SpawnMain ∷ Run n ∷ []) opened)) }
+    ensures front { OnErr result (TakesFront (K.taken out.old) (K.taken out.new) (transcript main.now (SpawnMain ∷ Run n ∷ []) opened)) }
+    ensures write { IsErrOf result Stop.Write → Rose (K.faults out.old) (K.faults out.new) }
+    ensures shown { IfOk result (λ e. Ran main.now n e) }
+{
+    let line = activity_line(alloc, 1)?;
+    write_all(out, &line)?;
+    let (session, line) = run_main(alloc, main, n)?;
+    write_all(out, &line)?;
+    Ok(session)
+}
