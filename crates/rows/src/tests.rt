@@ -207,6 +207,12 @@ fn stops_where_a_device_fails(rt: HostRuntime) -> Result<(), Fail> {
     let written = call(rt.alloc(), RUN, &world, script, 0, 2)?;
     assert_eq!(rt; written.0.as_slice(), b"activity 1\n".as_slice());
     assert_eq!(rt; written.1, 5);
+    let written = call(rt.alloc(), RUN, &world, script, 0, 3)?;
+    assert_eq!(rt;
+        written.0.as_slice(),
+        b"activity 1\nstop at 3 line 10:23\n".as_slice()
+    );
+    assert_eq!(rt; written.1, 0);
     let written = call(rt.alloc(), RUN, b"", script, 0, 1)?;
     assert_eq!(rt; written.1, 5);
     let written = call(rt.alloc(), &["run", "other.self"], &world, script, 0, 0)?;

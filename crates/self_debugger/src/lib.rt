@@ -11,5 +11,6 @@ mod top;
 mod words;
 
 pub use lines::{activity_line, run_line};
+pub use run_core::{Outcome, RunEnd, run_first};
 pub use top::{Ended, selfdb};
 pub use words::{Task, task_of};

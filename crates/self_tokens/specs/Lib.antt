@@ -1,0 +1,5 @@
+pub mod Classes
+pub mod Forms
+pub mod Kinds
+pub mod Texts
+pub mod Tokens
