@@ -68,7 +68,8 @@ impl Map {
         self.slots.get(&name.0).copied()
     }
 
-    fn len(&self) -> u32
+    /// How many slots it has.
+    pub fn len(&self) -> u32
         ensures len { result ≡ length self.now }
         ensures small { result ≤ 500000000 }
     {
