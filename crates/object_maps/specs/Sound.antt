@@ -18,6 +18,18 @@ pub record IsObject (maps : List Slots) (mem : Words) (number object : ℕ) : Ty
   pub mapped : map_at mem object < length maps
   pub numbered : word_at mem (object + 3) ≡ 4 * number
 
+-- one of the objects
+abbrev pub IsListed : List ℕ → ℕ → Type 0
+IsListed objects word = (number : ℕ) × (slice_get objects number ≡ Some word)
+
+-- each object has its number in its second word
+abbrev pub AreObjects : List Slots → Words → List ℕ → Type 0
+AreObjects maps mem objects = (number word : ℕ) → slice_get objects number ≡ Some word → IsObject maps mem number word
+
+-- each parent of a map is one of the objects
+abbrev pub HasListed : List ℕ → Slots → Type 0
+HasListed objects slots = (at name word : ℕ) → slice_get slots at ≡ Some (name, Parent word) → IsListed objects word
+
 -- the objects by their numbers: each has its number in its second word, and each parent in a map is one of them
 pub record IsSound (maps : List Slots) (mem : Words) (objects : List ℕ) : Type 0 where
   pub object : (number word : ℕ) → slice_get objects number ≡ Some word → IsObject maps mem number word

@@ -68,6 +68,14 @@ impl Map {
         self.slots.get(&name.0).copied()
     }
 
+    /// How many slots it has.
+    pub fn len(&self) -> u32
+        ensures len { result ≡ length self.now }
+        ensures small { result ≤ 500000000 }
+    {
+        self.slots.len() as u32
+    }
+
     /// The slot at a number from 0; none past the last.
     pub fn slot_at(&self, at: u32) -> Option<(Name, SlotKind)>
         ensures slot { result ≡ option_map named (slice_get self.now at) }
@@ -85,12 +93,14 @@ pub struct Maps {
 }
 
 impl Model for Maps {
-    ghost use Rattle.std.specs.Prelude.{List, ℕ};
+    ghost use Rattle.std.specs.Prelude.{List, ℕ, length, ◌≤◌};
     ghost use Rattle.object_maps.specs.declared.maps.SlotKind.{SlotKind};
 
     ghost Value = { List (List (ℕ × SlotKind)) };
 
     ghost view = { λ m. m.maps.items };
+
+    ghost invariant = { λ m. length m.maps.items ≤ 500000000 };
 }
 
 impl Maps {
@@ -119,9 +129,19 @@ impl Maps {
 
     /// How many maps there are.
     pub fn len(&self) -> usize
-        ensures { result ≡ length self.now }
+        ensures len { result ≡ length self.now }
+        ensures small { length self.now ≤ 500000000 }
     {
         self.maps.len()
+    }
+
+    /// How many slots a map has.
+    pub fn slot_count(&self, map: MapId) -> u32
+        requires { map.0 < length self.now }
+        ensures count { result ≡ length (slots_in self.now map.0) }
+        ensures small { result ≤ 500000000 }
+    {
+        self.maps[map.0 as usize].len()
     }
 
     /// The map of a value: that of the integers, or the number in the value's first word.
