@@ -1,4 +1,6 @@
 // Tables of worlds and scripts, with the expected text and status.
+//
+// A table is one text: a line for each row, whose fields `;` parts. In a field `~` stands for a newline.
 
 use first_text::CORE_TEXT;
 use io_ports::{MemFiles, MemSink, MemSource, NamedFile};
@@ -10,6 +12,49 @@ use std::test::Fail;
 type Written = (Vec<u8>, u8);
 
 const RUN: &[&str] = &["run", "add.self"];
+
+// Worlds behind the core text, scripts, texts and statuses.
+const SUMS: &str = "\
+main = ( 3 _IntAdd: 4 ).~;spawn main~run 100~;activity 1~done 7 at 4~;0
+main = ( 3 _IntAdd: 4 ).~;spawn main~run 1000000000;activity 1~done 7 at 4~;0
+main = ( 3 _IntAdd: 4 ).~;spawn main~run 4~;activity 1~done 7 at 4~;0
+main = ( 3 _IntAdd: 4 ).~;spawn main~run 3~;activity 1~stop at 3 line 10:23~;0
+main = ( 3 _IntAdd: 4 ).~;spawn main~run 2~;activity 1~stop at 2 line 10:12~;0
+main = ( 3 _IntAdd: 4 ).~;spawn main~run 1~;activity 1~stop at 1 line 10:21~;0
+main = ( 3 _IntAdd: 4 ).~;spawn main~run 0~;activity 1~stop at 0 line 10:10~;0
+main = ( 003 _IntAdd: 4 ).;spawn main~run 3~;activity 1~stop at 3 line 10:25~;0
+main = ( 536870911 _IntAdd: 0 ).;spawn main~run 9~;activity 1~done 536870911 at 4~;0
+main = ( 536870911 _IntAdd: 1 ).;spawn main~run 2~;activity 1~stop at 2 line 10:20~;0
+main = ( 536870911 _IntAdd: 1 ).;spawn main~run 9~;activity 1~error overflowError at 2 line 10:20~;0";
+
+const OTHERS: &str = "\
+main = ( 3 _IntAdd: 4 ).~;spawn main~run 03~;not built~;3
+main = ( 3 _IntAdd: 4 ).~;spawn main~run 1000000001~;not built~;3
+main = ( 3 _IntAdd: 4 ).~;spawn main~run 3~~;not built~;3
+main = ( 3 _IntAdd: 4 ).~;spawn main~run~;not built~;3
+main = ( 3 _IntAdd: 4 ).~;;not built~;3
+main = ( 3 ).~;spawn main~run 3~;not built~;2
+main = ( 536870912 _IntAdd: 1 ).~;spawn main~run 3~;not built~;2
+main = ( -3 _IntAdd: 4 ).~;;not built~;2
+main = ( 3 _IntAdd: 4 ).~~;;not built~;2
+;spawn main~run 3~;not built~;2";
+
+// The bytes of a field.
+fn bytes_of(alloc: Global, field: &str) -> Result<Vec<u8>, AllocError> {
+    let mut bytes = Vec::new(alloc);
+    for byte in field.as_bytes() {
+        bytes.push(if *byte == b'~' { b'\n' } else { *byte })?;
+    }
+    Ok(bytes)
+}
+
+// The field of a row with this number, and the empty text behind the last.
+fn field(row: &str, number: usize) -> &str {
+    match row.split(';').nth(number) {
+        Some(field) => field,
+        None => "",
+    }
+}
 
 // A call over a world file `add.self`, and a script. The reads of the script and the writes with these numbers fail.
 fn call(
@@ -36,119 +81,35 @@ fn call(
 // The core text, and this line.
 fn world_of(alloc: Global, main: &str) -> Result<Vec<u8>, AllocError> {
     let mut world = CORE_TEXT.to_vec(alloc)?;
-    world.extend_from_slice(main.as_bytes())?;
+    world.extend_from_slice(&bytes_of(alloc, main)?)?;
     Ok(world)
+}
+
+// The call of a row writes the text of the row and ends with its status.
+fn agrees(alloc: Global, row: &str) -> Result<bool, AllocError> {
+    let world = world_of(alloc, field(row, 0))?;
+    let script = bytes_of(alloc, field(row, 1))?;
+    let text = bytes_of(alloc, field(row, 2))?;
+    let (written, status) = call(alloc, RUN, &world, &script, 0, 0)?;
+    Ok(
+        written.as_slice() == text.as_slice()
+            && field(row, 3).as_bytes() == [b'0' + status % 10].as_slice(),
+    )
 }
 
 #[test]
 fn adds_two_integers(rt: HostRuntime) -> Result<(), Fail> {
-    let sum = "main = ( 3 _IntAdd: 4 ).\n";
-    let rows = [
-        (sum, "spawn main\nrun 100\n", "activity 1\ndone 7 at 4\n", 0),
-        (
-            sum,
-            "spawn main\nrun 1000000000",
-            "activity 1\ndone 7 at 4\n",
-            0,
-        ),
-        (sum, "spawn main\nrun 4\n", "activity 1\ndone 7 at 4\n", 0),
-        (
-            sum,
-            "spawn main\nrun 3\n",
-            "activity 1\nstop at 3 line 10:23\n",
-            0,
-        ),
-        (
-            sum,
-            "spawn main\nrun 2\n",
-            "activity 1\nstop at 2 line 10:12\n",
-            0,
-        ),
-        (
-            sum,
-            "spawn main\nrun 1\n",
-            "activity 1\nstop at 1 line 10:21\n",
-            0,
-        ),
-        (
-            sum,
-            "spawn main\nrun 0\n",
-            "activity 1\nstop at 0 line 10:10\n",
-            0,
-        ),
-        (
-            "main = ( 003 _IntAdd: 4 ).",
-            "spawn main\nrun 3\n",
-            "activity 1\nstop at 3 line 10:25\n",
-            0,
-        ),
-        (
-            "main = ( 536870911 _IntAdd: 0 ).",
-            "spawn main\nrun 9\n",
-            "activity 1\ndone 536870911 at 4\n",
-            0,
-        ),
-        (
-            "main = ( 536870911 _IntAdd: 1 ).",
-            "spawn main\nrun 2\n",
-            "activity 1\nstop at 2 line 10:20\n",
-            0,
-        ),
-        (
-            "main = ( 536870911 _IntAdd: 1 ).",
-            "spawn main\nrun 9\n",
-            "activity 1\nerror overflowError at 2 line 10:20\n",
-            0,
-        ),
-    ];
-    for (main, script, text, status) in rows {
-        let world = world_of(rt.alloc(), main)?;
-        let written = call(rt.alloc(), RUN, &world, script.as_bytes(), 0, 0)?;
-        assert_eq!(rt; written.0.as_slice(), text.as_bytes(), "at {main} {script}");
-        assert_eq!(rt; written.1, status, "at {main} {script}");
+    for row in SUMS.split('\n') {
+        assert!(rt; agrees(rt.alloc(), row)?, "{row}");
     }
     Ok(())
 }
 
 #[test]
 fn refuses_other_texts(rt: HostRuntime) -> Result<(), Fail> {
-    let sum = "main = ( 3 _IntAdd: 4 ).\n";
-    let rows = [
-        (sum, "spawn main\nrun 03\n", 3),
-        (sum, "spawn main\nrun 1000000001\n", 3),
-        (sum, "spawn main\nrun 3\n\n", 3),
-        (sum, "spawn main\nrun\n", 3),
-        (sum, "", 3),
-        ("main = ( 3 ).\n", "spawn main\nrun 3\n", 2),
-        (
-            "main = ( 536870912 _IntAdd: 1 ).\n",
-            "spawn main\nrun 3\n",
-            2,
-        ),
-        ("main = ( -3 _IntAdd: 4 ).\n", "", 2),
-        ("main = ( 3 _IntAdd: 4 ).\n\n", "", 2),
-        ("", "spawn main\nrun 3\n", 2),
-    ];
-    for (main, script, status) in rows {
-        let world = world_of(rt.alloc(), main)?;
-        let written = call(rt.alloc(), RUN, &world, script.as_bytes(), 0, 0)?;
-        assert_eq!(rt;
-            written.0.as_slice(),
-            b"not built\n".as_slice(),
-            "at {main} {script}"
-        );
-        assert_eq!(rt; written.1, status, "at {main} {script}");
+    for row in OTHERS.split('\n') {
+        assert!(rt; agrees(rt.alloc(), row)?, "{row}");
     }
-    let written = call(
-        rt.alloc(),
-        RUN,
-        b"main = ( 3 ).\n",
-        b"spawn main\nrun 3\n",
-        0,
-        0,
-    )?;
-    assert_eq!(rt; written.0.as_slice(), b"not built\n".as_slice());
-    assert_eq!(rt; written.1, 2);
     Ok(())
 }
 
