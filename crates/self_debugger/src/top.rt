@@ -49,6 +49,8 @@ pub fn selfdb<F: Files, S: Source, K: Sink>(
     ensures read { result.status ≡ 4 → HasReadFault (map string_bytes words.now) (F.bytes_of files.old)
         (λ n. Rose (F.faults_of files.old n) (F.faults_of files.new n)) (Rose (S.faults script.old) (S.faults script.new)) }
     ensures write { result.status ≡ 5 → Rose (K.faults out.old) (K.faults out.new) }
+    // Where a read failed, nothing was written.
+    ensures silent { result.status ≡ 4 → out.new ≡ out.old }
     // Where no count of faults rose, the status is that of the answer or want of memory.
     ensures complete { ((n : List ℕ) → world_name (map string_bytes words.now) ≡ Some n → ¬ Rose (F.faults_of files.old n) (F.faults_of files.new n))
         → ¬ Rose (S.faults script.old) (S.faults script.new) → ¬ Rose (K.faults out.old) (K.faults out.new)
@@ -77,6 +79,7 @@ fn serve_words<F: Files, S: Source, K: Sink>(
     ensures read { result.status ≡ 4 → HasReadFault (map string_bytes words.now) (F.bytes_of files.old)
         (λ n. Rose (F.faults_of files.old n) (F.faults_of files.new n)) (Rose (S.faults script.old) (S.faults script.new)) }
     ensures write { result.status ≡ 5 → Rose (K.faults out.old) (K.faults out.new) }
+    ensures silent { result.status ≡ 4 → out.new ≡ out.old }
     ensures unasked { world_name (map string_bytes words.now) ≡ None → (files.new ≡ files.old) × (script.new ≡ script.old) }
     ensures unread { result.status ≡ 2 → script.new ≡ script.old }
     ensures session { IsSome result.session ↔ (result.status ≡ 0) }
@@ -132,6 +135,7 @@ fn serve_world<F: Files, S: Source, K: Sink>(
     ensures read { result.status ≡ 4 → Rose (F.faults_of files.old name.now) (F.faults_of files.new name.now)
         ⊎ (Rose (S.faults script.old) (S.faults script.new) × ((w : List ℕ) → F.bytes_of files.old name.now ≡ Some w → IsAccepted w)) }
     ensures write { result.status ≡ 5 → Rose (K.faults out.old) (K.faults out.new) }
+    ensures silent { result.status ≡ 4 → out.new ≡ out.old }
     ensures unread { result.status ≡ 2 → script.new ≡ script.old }
     ensures session { IsSome result.session ↔ (result.status ≡ 0) }
     ensures shown { (w t : List ℕ) → F.bytes_of files.old name.now ≡ Some w → S.left script.old ≡ Some t
@@ -158,6 +162,7 @@ fn build_world<S: Source, K: Sink>(
     ensures not_one { ¬ (result.status ≡ 1) }
     ensures read { result.status ≡ 4 → Rose (S.faults script.old) (S.faults script.new) × IsSome (first_world world.now) }
     ensures write { result.status ≡ 5 → Rose (K.faults out.old) (K.faults out.new) }
+    ensures silent { result.status ≡ 4 → out.new ≡ out.old }
     ensures unread { result.status ≡ 2 → script.new ≡ script.old }
     ensures session { IsSome result.session ↔ (result.status ≡ 0) }
     ensures shown { (t : List ℕ) → S.left script.old ≡ Some t → IfSome result.session (IsSession world.now t) }
@@ -183,6 +188,7 @@ fn serve_script<S: Source, K: Sink>(
     ensures later { ¬ (result.status ≡ 1) × ¬ (result.status ≡ 2) }
     ensures read { result.status ≡ 4 → Rose (S.faults script.old) (S.faults script.new) }
     ensures write { result.status ≡ 5 → Rose (K.faults out.old) (K.faults out.new) }
+    ensures silent { result.status ≡ 4 → out.new ≡ out.old }
     ensures session { IsSome result.session ↔ (result.status ≡ 0) }
     ensures shown { (t : List ℕ) → S.left script.old ≡ Some t
         → IfSome result.session (λ e. (n : ℕ) × (first_script t ≡ Some n) × Ran main.now n e) }
