@@ -1,1 +1,5 @@
 pub mod Numbers
+pub mod Texts
+pub mod Decimals
+pub mod Scripts
+pub mod Worlds

@@ -1,5 +1,7 @@
 pub mod Numbers
-pub mod Fronts
+pub mod Ends
+pub mod Meanings
 pub mod CoreText
 pub mod FirstWorld
 pub mod FirstScript
+pub mod Reading

@@ -1,10 +1,10 @@
 // Fronts of texts, and decimal
-ghost use Rattle.std.specs.Prelude.{◌≡◌, ◌≤◌, length};
+ghost use Rattle.std.specs.Prelude.{◌≡◌, ◌≤◌, ℕ, length, decimal, Some, IfSome};
 ghost use Rattle.std.specs.Option.{option_copied};
 ghost use Rattle.std.specs.List.{list_all};
 ghost use Rattle.std.specs.Char.{is_ascii_digit};
-ghost use Rattle.first_text.specs.Numbers.{number, is_plain, plain_number};
-ghost use Rattle.first_text.specs.Fronts.{behind, digits, is_end};
+ghost use Rattle.first_text.specs.Numbers.{number};
+ghost use Rattle.first_text.specs.Reading.{behind, digits, is_end, is_plain};
 
 /// What follows `front` in a text that begins with it.
 pub fn behind<'a>(front: &[u8], text: &'a [u8]) -> Option<&'a [u8]>
@@ -75,16 +75,20 @@ fn is_plain(text: &[u8]) -> bool
     true
 }
 
-/// The number that a text of one to ten digits without leading zeros stands for, where it is at most `most`.
-pub fn plain_number(text: &[u8], most: u64) -> Option<u64>
-    ensures { result ≡ plain_number text.now most }
+/// The number whose decimal notation, without leading zeros, the text is, where that number is at most `most`.
+pub fn plain_number(text: &[u8], most: u32) -> Option<u32>
+    ensures found { IfSome result (λ n. (text.now ≡ decimal n) × (n ≤ most)) }
+    ensures only { (n : ℕ) → text.now ≡ decimal n → n ≤ most → result ≡ Some n }
 {
-    if !is_plain(text) || text.len() > 10 {
+    if !is_plain(text) {
+        return None;
+    }
+    if text.len() > 10 {
         return None;
     }
     let number = number(text);
-    if number > most {
+    if number > most as u64 {
         return None;
     }
-    Some(number)
+    Some(number as u32)
 }

@@ -7,11 +7,13 @@
 
 mod core_text;
 mod fronts;
+mod laws;
 mod script;
 mod sum;
 mod world;
 
 pub use core_text::CORE_TEXT;
 pub use fronts::plain_number;
+pub use laws::one_meaning;
 pub use script::first_script;
 pub use world::{FirstBody, first_world};

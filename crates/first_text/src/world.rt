@@ -1,9 +1,10 @@
 // The world.
-ghost use Rattle.std.specs.Prelude.{◌≡◌, ◌≤◌, ◌+◌, ◌++◌, ◌∷◌, [], length, IfOk, IfSome, OnOk};
+ghost use Rattle.std.specs.Prelude.{◌≡◌, ◌≤◌, ◌+◌, ◌++◌, ◌∷◌, [], length, Some, IfOk, IfSome, OnOk};
 ghost use Rattle.std.specs.Option.{option_copied};
+ghost use Rattle.source_model.specs.State.{Body};
 ghost use Rattle.first_text.specs.CoreText.{core_text};
-ghost use Rattle.first_text.specs.Fronts.{behind};
-ghost use Rattle.first_text.specs.FirstWorld.{IsFirst, IsSmall, first_world, sum_of, with_first, with_second, literal, at_column, body_of};
+ghost use Rattle.first_text.specs.FirstWorld.{IsFirstWorld, at_column};
+ghost use Rattle.first_text.specs.Reading.{IsSmall, behind, sum_of, with_first, with_second, literal, body_of};
 
 use crate::CORE_TEXT;
 use crate::fronts::{behind, digits, is_end, number};
@@ -29,8 +30,9 @@ impl Model for FirstBody {
 
 /// The body of the method `main` of an accepted world, and none for any other text.
 pub fn first_world(alloc: Global, text: &[u8]) -> Result<Option<FirstBody>, OutOfMemory>
-    ensures body { IfOk result (λ body. body ≡ first_world text.now) }
-    ensures form { IfOk result (λ body. IfSome body IsFirst) }
+    ensures found { IfOk result (λ main. IfSome main (IsFirstWorld text.now)) }
+    // An accepted world is never refused, and has no other body.
+    ensures only { (body : Body) → IsFirstWorld text.now body → IfOk result (λ main. main ≡ Some body) }
 {
     let Some(sum) = sum_of(text) else {
         return Ok(None);

@@ -1,4 +1,6 @@
-pub mod Refusals
+pub mod Limits
+pub mod Cases
+pub mod OneJob
+pub mod OneAnswer
 pub mod Taking
 pub mod Runnable
-pub mod Sessions

@@ -1,13 +1,15 @@
 -- The body of an accepted world can be run.
 use Rattle.std.proofs.Common.{◌≡◌, ℕ, zero, suc, ◌+◌, ◌<◌, ◌≤◌, refl, ◌∙◌, ap, sym, subst, arith}
-use Rattle.std.specs.Prelude.{ℤ, pos, Some, true, List, slice_get}
+use Rattle.std.specs.Prelude.{ℤ, pos, Some, true, List, length, slice_get}
 use Rattle.self_terms.specs.declared.nodes.Node.{Node}
 use Rattle.self_terms.specs.declared.nodes.Node.TheVariants as nodes
 use Rattle.source_model.specs.State.{Body}
-use Rattle.first_text.specs.FirstWorld.{sum_body, IsFirst}
+use Rattle.first_text.specs.Numbers.{number}
+use Rattle.first_text.specs.FirstWorld.{sum_body}
 use Rattle.run_core.specs.Code.{depth, taken}
 use Rattle.run_core.specs.Standing.{IsSmall}
 use Rattle.run_core.specs.Plain.{IsRunnable, is_inner}
+use Rattle.self_debugger.specs.Headline.{IsMain}
 
 small_int : (a : ℕ) (i : ℤ) → a ≤ 536870911 → pos a ≡ i → IsSmall i
 small_int a i h e = let P : ℤ → Type 0 = IsSmall in subst P e h
@@ -59,5 +61,8 @@ sum_runnable a x b y ha hb = record {
   ends = ends_at a x b y;
 }
 
-pub first_runnable : (body : Body) → IsFirst body → IsRunnable body
-first_runnable body f = let P : Body → Type 0 = IsRunnable in subst P (sym f.is) (sum_runnable f.a f.a_long f.b f.b_long f.a_small f.b_small)
+pub first_runnable : (body : Body) → IsMain body → IsRunnable body
+first_runnable body f =
+    let P : Body → Type 0 = IsRunnable in
+    let w = f.1 in
+    subst P (sym w.main) (sum_runnable (number w.a) (length w.a) (number w.b) (length w.b) (w.first.small) (w.second.small))

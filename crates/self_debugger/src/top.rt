@@ -1,17 +1,15 @@
 // The call that does all that the program does.
-ghost use Rattle.std.specs.Prelude.{◌≡◌, ◌⊎◌, ◌≤◌, ◌↔◌, List, ℕ, [], ◌∷◌, Some, None, IsSome, IsNone, IfSome, IfOk, OnOk, OnErr, IsErrOf, map, string_bytes};
+ghost use Rattle.std.specs.Prelude.{◌≡◌, ◌⊎◌, ◌≤◌, ◌↔◌, List, ℕ, [], ◌∷◌, length, Some, IsSome, IsNone, IfSome, IfOk, OnOk, OnErr, IsErrOf, map, string_bytes};
 ghost use Rattle.io_ports.specs.Causes.{Rose, Takes, TakesFront};
 ghost use Rattle.source_model.specs.State.{opened};
 ghost use Rattle.source_model.specs.Script.{SpawnMain, Run, spawned, transcript};
 ghost use Rattle.source_model.specs.Step.{run};
 ghost use Rattle.source_model.specs.Lines.{run_line};
-ghost use Rattle.first_text.specs.FirstWorld.{IsFirst, first_world};
-ghost use Rattle.first_text.specs.FirstScript.{first_script};
 ghost use Rattle.run_core.specs.Ran.{Ran};
 ghost use Rattle.self_debugger.specs.declared.top.Stop.TheVariants.{OutOfMemory, Write};
-ghost use Rattle.self_debugger.specs.Words.{world_name};
-ghost use Rattle.self_debugger.specs.Answer.{answer, run_answer, told, script_answer};
-ghost use Rattle.self_debugger.specs.Headline.{Outcome, TellsWorld, IsAccepted, HasReadFault, IsSession};
+ghost use Rattle.self_debugger.specs.Words.{Asks, RunWorld};
+ghost use Rattle.self_debugger.specs.Answer.{Answer, Answers, WorldAnswer, ScriptAnswer};
+ghost use Rattle.self_debugger.specs.Headline.{Outcome, TellsWorld, IsAccepted, IsMain, HasReadFault, IsRun, IsSession};
 
 use crate::lines::{activity_line, run_line};
 use crate::words::{Task, task_of};
@@ -42,9 +40,10 @@ pub fn selfdb<F: Files, S: Source, K: Sink>(
     script: &mut S,
     out: &mut K,
 ) -> Ended
-    // With status 0 to 3 the text and the status are the answer; with 4 to 6 a front of that text was written.
-    ensures headline { (w t : List ℕ) → TellsWorld (map string_bytes words.now) (F.bytes_of files.old) w → S.left script.old ≡ Some t
-        → Outcome result.status (answer (map string_bytes words.now) w t) (K.taken out.old) (K.taken out.new) }
+    // With status 0 to 3 the text and the status are the answer; with 4 to 6 a front of that text was written. There
+    // is one answer: `one_answer`.
+    ensures headline { (a : Answer) → Answers (map string_bytes words.now) (F.bytes_of files.old) (S.left script.old) a
+        → Outcome result.status a (K.taken out.old) (K.taken out.new) }
     ensures range { result.status ≤ 6 }
     ensures read { result.status ≡ 4 → HasReadFault (map string_bytes words.now) (F.bytes_of files.old)
         (λ n. Rose (F.faults_of files.old n) (F.faults_of files.new n)) (Rose (S.faults script.old) (S.faults script.new)) }
@@ -52,11 +51,11 @@ pub fn selfdb<F: Files, S: Source, K: Sink>(
     // Where a read failed, nothing was written.
     ensures silent { result.status ≡ 4 → out.new ≡ out.old }
     // Where no count of faults rose, the status is that of the answer or want of memory.
-    ensures complete { ((n : List ℕ) → world_name (map string_bytes words.now) ≡ Some n → ¬ Rose (F.faults_of files.old n) (F.faults_of files.new n))
+    ensures complete { ((n : List ℕ) → Asks (map string_bytes words.now) (RunWorld n) → ¬ Rose (F.faults_of files.old n) (F.faults_of files.new n))
         → ¬ Rose (S.faults script.old) (S.faults script.new) → ¬ Rose (K.faults out.old) (K.faults out.new)
         → (result.status ≤ 3) ⊎ (result.status ≡ 6) }
     // Words that name no world file are answered before anything is read, and a refused world before the script is.
-    ensures unasked { world_name (map string_bytes words.now) ≡ None → (files.new ≡ files.old) × (script.new ≡ script.old) }
+    ensures unasked { ((n : List ℕ) → ¬ Asks (map string_bytes words.now) (RunWorld n)) → (files.new ≡ files.old) × (script.new ≡ script.old) }
     ensures unread { result.status ≡ 2 → script.new ≡ script.old }
     ensures session { IsSome result.session ↔ (result.status ≡ 0) }
     ensures shown { (w t : List ℕ) → TellsWorld (map string_bytes words.now) (F.bytes_of files.old) w → S.left script.old ≡ Some t
@@ -73,14 +72,14 @@ fn serve_words<F: Files, S: Source, K: Sink>(
     script: &mut S,
     out: &mut K,
 ) -> Ended
-    ensures headline { (w t : List ℕ) → TellsWorld (map string_bytes words.now) (F.bytes_of files.old) w → S.left script.old ≡ Some t
-        → Outcome result.status (answer (map string_bytes words.now) w t) (K.taken out.old) (K.taken out.new) }
+    ensures headline { (a : Answer) → Answers (map string_bytes words.now) (F.bytes_of files.old) (S.left script.old) a
+        → Outcome result.status a (K.taken out.old) (K.taken out.new) }
     ensures range { result.status ≤ 6 }
     ensures read { result.status ≡ 4 → HasReadFault (map string_bytes words.now) (F.bytes_of files.old)
         (λ n. Rose (F.faults_of files.old n) (F.faults_of files.new n)) (Rose (S.faults script.old) (S.faults script.new)) }
     ensures write { result.status ≡ 5 → Rose (K.faults out.old) (K.faults out.new) }
     ensures silent { result.status ≡ 4 → out.new ≡ out.old }
-    ensures unasked { world_name (map string_bytes words.now) ≡ None → (files.new ≡ files.old) × (script.new ≡ script.old) }
+    ensures unasked { ((n : List ℕ) → ¬ Asks (map string_bytes words.now) (RunWorld n)) → (files.new ≡ files.old) × (script.new ≡ script.old) }
     ensures unread { result.status ≡ 2 → script.new ≡ script.old }
     ensures session { IsSome result.session ↔ (result.status ≡ 0) }
     ensures shown { (w t : List ℕ) → TellsWorld (map string_bytes words.now) (F.bytes_of files.old) w → S.left script.old ≡ Some t
@@ -128,8 +127,8 @@ fn serve_world<F: Files, S: Source, K: Sink>(
     script: &mut S,
     out: &mut K,
 ) -> Ended
-    ensures outcome { (w t : List ℕ) → F.bytes_of files.old name.now ≡ Some w → S.left script.old ≡ Some t
-        → Outcome result.status (run_answer w t) (K.taken out.old) (K.taken out.new) }
+    ensures outcome { (w : List ℕ) (a : Answer) → F.bytes_of files.old name.now ≡ Some w → WorldAnswer w (S.left script.old) a
+        → Outcome result.status a (K.taken out.old) (K.taken out.new) }
     ensures range { result.status ≤ 6 }
     ensures not_one { ¬ (result.status ≡ 1) }
     ensures read { result.status ≡ 4 → Rose (F.faults_of files.old name.now) (F.faults_of files.new name.now)
@@ -156,11 +155,11 @@ fn build_world<S: Source, K: Sink>(
     script: &mut S,
     out: &mut K,
 ) -> Ended
-    ensures outcome { (t : List ℕ) → S.left script.old ≡ Some t
-        → Outcome result.status (told (first_world world.now) t) (K.taken out.old) (K.taken out.new) }
+    requires { length world.now ≤ 1048576 }
+    ensures outcome { (a : Answer) → WorldAnswer world.now (S.left script.old) a → Outcome result.status a (K.taken out.old) (K.taken out.new) }
     ensures range { result.status ≤ 6 }
     ensures not_one { ¬ (result.status ≡ 1) }
-    ensures read { result.status ≡ 4 → Rose (S.faults script.old) (S.faults script.new) × IsSome (first_world world.now) }
+    ensures read { result.status ≡ 4 → Rose (S.faults script.old) (S.faults script.new) × IsAccepted world.now }
     ensures write { result.status ≡ 5 → Rose (K.faults out.old) (K.faults out.new) }
     ensures silent { result.status ≡ 4 → out.new ≡ out.old }
     ensures unread { result.status ≡ 2 → script.new ≡ script.old }
@@ -181,17 +180,16 @@ fn serve_script<S: Source, K: Sink>(
     script: &mut S,
     out: &mut K,
 ) -> Ended
-    requires { IsFirst main.now }
-    ensures outcome { (t : List ℕ) → S.left script.old ≡ Some t
-        → Outcome result.status (told (Some main.now) t) (K.taken out.old) (K.taken out.new) }
+    requires { IsMain main.now }
+    ensures outcome { (t : List ℕ) (a : Answer) → S.left script.old ≡ Some t → ScriptAnswer main.now t a
+        → Outcome result.status a (K.taken out.old) (K.taken out.new) }
     ensures range { result.status ≤ 6 }
     ensures later { ¬ (result.status ≡ 1) × ¬ (result.status ≡ 2) }
     ensures read { result.status ≡ 4 → Rose (S.faults script.old) (S.faults script.new) }
     ensures write { result.status ≡ 5 → Rose (K.faults out.old) (K.faults out.new) }
     ensures silent { result.status ≡ 4 → out.new ≡ out.old }
     ensures session { IsSome result.session ↔ (result.status ≡ 0) }
-    ensures shown { (t : List ℕ) → S.left script.old ≡ Some t
-        → IfSome result.session (λ e. (n : ℕ) × (first_script t ≡ Some n) × Ran main.now n e) }
+    ensures shown { (t : List ℕ) → S.left script.old ≡ Some t → IfSome result.session (IsRun main.now t) }
 {
     match read_all(alloc, script, LIMIT) {
         Ok(text) => serve_text(alloc, main, &text, out),
@@ -203,13 +201,14 @@ fn serve_script<S: Source, K: Sink>(
 
 // Answers the script of these bytes.
 fn serve_text<K: Sink>(alloc: Global, main: &FirstBody, text: &[u8], out: &mut K) -> Ended
-    requires { IsFirst main.now }
-    ensures outcome { Outcome result.status (script_answer main.now (first_script text.now)) (K.taken out.old) (K.taken out.new) }
+    requires body { IsMain main.now }
+    requires short { length text.now ≤ 1048576 }
+    ensures outcome { (a : Answer) → ScriptAnswer main.now text.now a → Outcome result.status a (K.taken out.old) (K.taken out.new) }
     ensures range { result.status ≤ 6 }
     ensures later { ¬ (result.status ≡ 1) × ¬ (result.status ≡ 2) × ¬ (result.status ≡ 4) }
     ensures write { result.status ≡ 5 → Rose (K.faults out.old) (K.faults out.new) }
     ensures session { IsSome result.session ↔ (result.status ≡ 0) }
-    ensures shown { IfSome result.session (λ e. (n : ℕ) × (first_script text.now ≡ Some n) × Ran main.now n e) }
+    ensures shown { IfSome result.session (IsRun main.now text.now) }
 {
     match first_script(text) {
         None => refuse(out, b"not built\n", 3),
@@ -219,7 +218,7 @@ fn serve_text<K: Sink>(alloc: Global, main: &FirstBody, text: &[u8], out: &mut K
 
 // Runs the two commands of an accepted script.
 fn serve_run<K: Sink>(alloc: Global, main: &FirstBody, n: u64, out: &mut K) -> Ended
-    requires body { IsFirst main.now }
+    requires body { IsMain main.now }
     requires few { n ≤ 1000000000 }
     ensures outcome { Outcome result.status (transcript main.now (SpawnMain ∷ Run n ∷ []) opened, 0) (K.taken out.old) (K.taken out.new) }
     ensures which { (result.status ≡ 0) ⊎ (result.status ≡ 5) ⊎ (result.status ≡ 6) }
@@ -261,7 +260,7 @@ impl From<Failed> for Stop {
 
 // What a run of the body's first activity leaves, and the line of the run.
 fn run_main(alloc: Global, main: &FirstBody, n: u64) -> Result<(RunEnd, Vec<u8>), AllocError>
-    requires body { IsFirst main.now }
+    requires body { IsMain main.now }
     requires few { n ≤ 1000000000 }
     ensures ran { IfOk result (λ r. Ran main.now n r.0) }
     ensures line { IfOk result (λ r. r.1.items ≡ run_line (run n (spawned main.now opened))) }
@@ -273,7 +272,7 @@ fn run_main(alloc: Global, main: &FirstBody, n: u64) -> Result<(RunEnd, Vec<u8>)
 
 // The commands `spawn main` and `run N`. Each writes its line in one call before the next one begins.
 fn commands<K: Sink>(alloc: Global, main: &FirstBody, n: u64, out: &mut K) -> Result<RunEnd, Stop>
-    requires body { IsFirst main.now }
+    requires body { IsMain main.now }
     requires few { n ≤ 1000000000 }
     ensures all { OnOk result (Takes (K.taken out.old) (K.taken out.new) (transcript main.now (SpawnMain ∷ Run n ∷ []) opened)) }
     ensures front { OnErr result (TakesFront (K.taken out.old) (K.taken out.new) (transcript main.now (SpawnMain ∷ Run n ∷ []) opened)) }

@@ -1,7 +1,7 @@
 // The words after the program's name.
-ghost use Rattle.std.specs.Prelude.{◌≡◌, map, string_bytes, option_map};
+ghost use Rattle.std.specs.Prelude.{◌≡◌, [], ◌∷◌, Some, IfSome, map, string_bytes, option_map, codes};
 ghost use Rattle.std.specs.Option.{option_copied};
-ghost use Rattle.self_debugger.specs.Words.{job, job_of, file_name, drill};
+ghost use Rattle.self_debugger.specs.Words.{Job, Asks, IsFileName};
 ghost use Rattle.self_debugger.specs.Tasks.{meant};
 
 use first_text::plain_number;
@@ -21,7 +21,8 @@ pub enum Task<'a> {
 /// empty and doesn't begin with `-`; or the first is `drill`, and the second is a number from 1 to 4000 without
 /// leading zeros.
 pub fn task_of(words: &[String]) -> Option<Task<'_>>
-    ensures { option_map meant result ≡ job (map string_bytes words.now) }
+    ensures found { IfSome result (λ task. Asks (map string_bytes words.now) (meant task)) }
+    ensures only { (job : Job) → Asks (map string_bytes words.now) job → option_map meant result ≡ Some job }
 {
     if words.len() != 2 {
         return None;
@@ -31,7 +32,8 @@ pub fn task_of(words: &[String]) -> Option<Task<'_>>
 
 // What two words ask for.
 fn task_named<'a>(command: &str, word: &'a str) -> Option<Task<'a>>
-    ensures { option_map meant result ≡ job_of command.now word.now }
+    ensures found { IfSome result (λ task. Asks (command.now ∷ word.now ∷ []) (meant task)) }
+    ensures only { (job : Job) → Asks (command.now ∷ word.now ∷ []) job → option_map meant result ≡ Some job }
 {
     match command {
         "run" => Some(Task::Run(file_name(word)?)),
@@ -43,7 +45,8 @@ fn task_named<'a>(command: &str, word: &'a str) -> Option<Task<'a>>
 
 // The name of a file: neither empty nor beginning with a minus sign.
 fn file_name(word: &str) -> Option<&str>
-    ensures { option_copied result ≡ file_name word.now }
+    ensures found { IfSome result (λ name. (name.now ≡ word.now) × IsFileName word.now) }
+    ensures only { IsFileName word.now → option_copied result ≡ Some word.now }
 {
     match word.as_bytes() {
         [] => None,
@@ -54,11 +57,12 @@ fn file_name(word: &str) -> Option<&str>
 
 // A drill of this number.
 fn drill<'a>(word: &'a str) -> Option<Task<'a>>
-    ensures { option_map meant result ≡ drill word.now }
+    ensures found { IfSome result (λ task. Asks (codes "drill" ∷ word.now ∷ []) (meant task)) }
+    ensures only { (job : Job) → Asks (codes "drill" ∷ word.now ∷ []) job → option_map meant result ≡ Some job }
 {
     let number = plain_number(word.as_bytes(), 4000)?;
     if number == 0 {
         return None;
     }
-    Some(Task::Drill(number))
+    Some(Task::Drill(number as u64))
 }

@@ -1,0 +1,15 @@
+// What is known of answers without a call.
+ghost use Rattle.std.specs.Prelude.{◌≡◌, ℕ, List, Option, Some};
+ghost use Rattle.self_debugger.specs.Answer.{Answer, Answers};
+ghost use Rattle.self_debugger.specs.Headline.{TellsWorld};
+
+/// To all words, over all files and scripts, there is no more than one answer, and there is one where the world and
+/// the script are told.
+pub fn one_answer()
+    ensures one { (words : List (List ℕ)) (bytes_of : List ℕ → Option (List ℕ)) (script : Option (List ℕ)) (a b : Answer)
+        → Answers words bytes_of script a → Answers words bytes_of script b → a ≡ b }
+    ensures some { (words : List (List ℕ)) (bytes_of : List ℕ → Option (List ℕ)) (w t : List ℕ)
+        → TellsWorld words bytes_of w → (a : Answer) × Answers words bytes_of (Some t) a }
+{
+    first_text::one_meaning();
+}
