@@ -57,7 +57,9 @@ pub fn selfdb<F: Files, S: Source, K: Sink>(
     // Words that name no world file are answered before anything is read, and a refused world before the script is.
     ensures unasked { ((n : List ℕ) → ¬ Asks (map string_bytes words.now) (RunWorld n)) → (files.new ≡ files.old) × (script.new ≡ script.old) }
     ensures unread { result.status ≡ 2 → script.new ≡ script.old }
+    // A session is that of a world and a script: those that files and script told, where they told them.
     ensures session { IsSome result.session ↔ (result.status ≡ 0) }
+    ensures ran { IfSome result.session (λ e. (w t : List ℕ) × IsSession w t e) }
     ensures shown { (w t : List ℕ) → TellsWorld (map string_bytes words.now) (F.bytes_of files.old) w → S.left script.old ≡ Some t
         → IfSome result.session (IsSession w t) }
 {
@@ -82,6 +84,7 @@ fn serve_words<F: Files, S: Source, K: Sink>(
     ensures unasked { ((n : List ℕ) → ¬ Asks (map string_bytes words.now) (RunWorld n)) → (files.new ≡ files.old) × (script.new ≡ script.old) }
     ensures unread { result.status ≡ 2 → script.new ≡ script.old }
     ensures session { IsSome result.session ↔ (result.status ≡ 0) }
+    ensures ran { IfSome result.session (λ e. (w t : List ℕ) × IsSession w t e) }
     ensures shown { (w t : List ℕ) → TellsWorld (map string_bytes words.now) (F.bytes_of files.old) w → S.left script.old ≡ Some t
         → IfSome result.session (IsSession w t) }
 {
@@ -137,6 +140,7 @@ fn serve_world<F: Files, S: Source, K: Sink>(
     ensures silent { result.status ≡ 4 → out.new ≡ out.old }
     ensures unread { result.status ≡ 2 → script.new ≡ script.old }
     ensures session { IsSome result.session ↔ (result.status ≡ 0) }
+    ensures ran { IfSome result.session (λ e. (w t : List ℕ) × IsSession w t e) }
     ensures shown { (w t : List ℕ) → F.bytes_of files.old name.now ≡ Some w → S.left script.old ≡ Some t
         → IfSome result.session (IsSession w t) }
 {
@@ -164,6 +168,7 @@ fn build_world<S: Source, K: Sink>(
     ensures silent { result.status ≡ 4 → out.new ≡ out.old }
     ensures unread { result.status ≡ 2 → script.new ≡ script.old }
     ensures session { IsSome result.session ↔ (result.status ≡ 0) }
+    ensures ran { IfSome result.session (λ e. (t : List ℕ) × IsSession world.now t e) }
     ensures shown { (t : List ℕ) → S.left script.old ≡ Some t → IfSome result.session (IsSession world.now t) }
 {
     match first_world(alloc, world) {
@@ -189,6 +194,7 @@ fn serve_script<S: Source, K: Sink>(
     ensures write { result.status ≡ 5 → Rose (K.faults out.old) (K.faults out.new) }
     ensures silent { result.status ≡ 4 → out.new ≡ out.old }
     ensures session { IsSome result.session ↔ (result.status ≡ 0) }
+    ensures ran { IfSome result.session (λ e. (t : List ℕ) × IsRun main.now t e) }
     ensures shown { (t : List ℕ) → S.left script.old ≡ Some t → IfSome result.session (IsRun main.now t) }
 {
     match read_all(alloc, script, LIMIT) {
