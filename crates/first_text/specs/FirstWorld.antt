@@ -1,5 +1,6 @@
 -- The world that is accepted so far: the core text, then the line `main = ( A _IntAdd: B ).`. Its last newline may be missing.
 use Rattle.std.specs.Prelude.{◌≡◌, ℕ, ◌+◌, ◌<◌, ◌≤◌, List, [], ◌∷◌, ◌++◌, length, pos, codes, false}
+use Rattle.self_terms.specs.declared.names.TheConstants.{INT_ADD}
 use Rattle.self_terms.specs.declared.nodes.Node.TheVariants as nodes
 use Rattle.self_terms.specs.declared.nodes.Place.{Place}
 use Rattle.source_model.specs.State.{Body}
@@ -18,11 +19,11 @@ pub record IsLiteral (ds : List ℕ) : Type 0 where
 abbrev pub at_column : ℕ → Place
 at_column c = record { edit = 0; line = 10; column = c }
 
--- the nodes of `main = ( A _IntAdd: B ).`, where A and B have so many digits, each with its place: A, B, `_IntAdd:`, whose name
--- is 1, and the closing parenthesis
+-- the nodes of `main = ( A _IntAdd: B ).`, where A and B have so many digits, each with its place: A, B, `_IntAdd:`
+-- and the closing parenthesis
 abbrev pub sum_body : ℕ → ℕ → ℕ → ℕ → Body
 sum_body a a_long b b_long = record {
-  nodes = nodes.Int (pos a) ∷ nodes.Int (pos b) ∷ nodes.Prim (record { 0 = 1 }) 1 false false ∷ nodes.End ∷ [];
+  nodes = nodes.Int (pos a) ∷ nodes.Int (pos b) ∷ nodes.Prim INT_ADD 1 false false ∷ nodes.End ∷ [];
   places = at_column 10 ∷ at_column (a_long + 20) ∷ at_column (a_long + 11) ∷ at_column (a_long + b_long + 21) ∷ [];
 }
 

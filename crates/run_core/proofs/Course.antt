@@ -62,9 +62,9 @@ Before body left base d result result' m x = (j : ℕ) × (j ≤ 13) × Goes j m
 prepend : (body : Body) (left base d : ℕ) (result result' : State) (m x : Flat) (j : ℕ) → j ≤ 13 → Goes j m x → result ≡ result'
     → CourseEnd body left base d result' x → CourseEnd body left base (suc d) result m
 prepend body left base d result result' m x j few g e (Stops n to k pending bound h s) =
-    Stops (j + n) to k pending (omega arith) (goes_then j n m x to g h) (record { is = e ∙ s.is; trap = s.trap; values = s.values; count = s.count; deep = s.deep; at = s.at })
+    Stops (j + n) to k pending (omega arith) (goes_then j n m x to g h) (record { is = e ∙ s.is; trap = s.trap; frame = s.frame; values = s.values; count = s.count; deep = s.deep; at = s.at })
 prepend body left base d result result' m x j few g e (Fails_at n to c k pending bound h s) =
-    Fails_at (j + n) to c k pending (omega arith) (goes_then j n m x to g h) (record { is = e ∙ s.is; does = s.does; trap = s.trap; values = s.values; count = s.count; deep = s.deep; at = s.at; below = s.below })
+    Fails_at (j + n) to c k pending (omega arith) (goes_then j n m x to g h) (record { is = e ∙ s.is; does = s.does; trap = s.trap; frame = s.frame; values = s.values; count = s.count; deep = s.deep; at = s.at; below = s.below })
 prepend body left base d result result' m x j few g e (Finishes n to c int bound h s) =
     Finishes (j + n) to c int (omega arith) (goes_then j n m x to g h) (record { is = e ∙ s.is; trap = s.trap; small = s.small; word = s.word; count = s.count; below = s.below })
 
@@ -84,6 +84,7 @@ by_end d body left c k pending m x base onward low below deep j short g (Errs n 
       is = run_fails d body k pending _ (base + c) s.does;
       does = s.does;
       trap = s.trap;
+      frame = s.runs.frame;
       values = s.runs.values;
       count = s.runs.count;
       deep = deep;
@@ -131,6 +132,7 @@ course zero body left c base ok all far k pending m low r deep s0 =
     Stops 5 (stopped m) k pending (omega arith) g.0 (record {
       is = run_zero _ ∙ ap (λ j. state_at body k pending (base + j)) same;
       trap = g.1;
+      frame = (stopped_runs body.nodes left c pending m r).frame;
       values = (stopped_runs body.nodes left c pending m r).values;
       count = (stopped_runs body.nodes left c pending m r).count ∙ same;
       deep = deep;

@@ -71,6 +71,15 @@ apart_both a b c p m n h k = record {
   ];
 }
 
+-- the code of the nodes so far lies in one stretch, and that of one more behind it
+pub apart_next : (a b c : Words) (k : ℕ) → Apart a b (block 0) (16 * k) → Apart b c (block k) 16 → Apart a c (block 0) (16 * (k + 1))
+apart_next a b c k h next =
+    let P : ℕ → Type 0 = λ p. Apart b c p 16 in
+    let Q : ℕ → Type 0 = λ n. Apart a c (block 0) n in
+    let place : block k ≡ block 0 + 4 * (16 * k) = omega arith in
+    let count : 16 * k + 16 ≡ 16 * (k + 1) = omega arith in
+    subst Q count (apart_both a b c (block 0) (16 * k) 16 h (subst P place next))
+
 pub slice_get_is : (xs : List Insn) (j : ℕ) (d : Insn) → j < length xs → slice_get xs j ≡ Some (get_or xs j d)
 slice_get_is [] j d lt = absurd (omega arith)
 slice_get_is (x ∷ xs) zero d lt = refl

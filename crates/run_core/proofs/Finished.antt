@@ -1,35 +1,38 @@
 -- The last service, and what the run then stands for.
-use Rattle.std.proofs.Common.{◌≡◌, ℕ, ◌-◌, ◌≤◌, refl, ◌∙◌, ap, sym, subst, arith, inl, inr}
+use Rattle.std.proofs.Common.{◌≡◌, ℕ, ◌+◌, ◌-◌, ◌*◌, ◌≤◌, refl, ◌∙◌, ap, sym, subst, arith, inl, inr}
 use Rattle.std.specs.Prelude.{ℤ, List, [], ◌∷◌, length, slice_get}
 use Rattle.self_terms.specs.declared.values.Value.{Value}
 use Rattle.self_terms.specs.declared.values.Value.TheVariants as values
-use Rattle.sparc_store.specs.Words.{Words, with_word}
+use Rattle.self_terms.specs.Words.{int_of}
+use Rattle.sparc_store.specs.Words.{Words, word_at, with_word}
 use Rattle.sparc_machine.specs.Flat.{Flat}
 use Rattle.source_model.specs.State.{Body, State, Running, opened}
 use Rattle.source_model.specs.Script.{spawned}
 use Rattle.source_model.specs.Step.{run, step, place_at, Fails}
 use Rattle.run_core.specs.Code.{depth}
-use Rattle.run_core.specs.Hosted.{Hosted, count, serviced, with_left, Spawned}
-use Rattle.run_core.specs.Shown.{shown, values_at, node_at, word_int}
-use Rattle.run_core.specs.Plain.{IsRunnable, error_of}
+use Rattle.run_core.specs.Hosted.{Hosted, count, serviced, with_left, Spawned, first_frame}
+use Rattle.run_core.specs.Shown.{shown, values_at, node_at}
+use Rattle.run_core.specs.Plain.{IsRunnable}
 use Rattle.run_core.specs.Standing.{Holds}
-use Rattle.run_core.specs.Course.{state_at, failed_at, answered_at, HasStopped, HasFailed, HasFinished}
+use Rattle.run_core.specs.Course.{error_of, state_at, failed_at, answered_at, HasStopped, HasFailed, HasFinished}
 use Rattle.run_core.specs.declared.run_end.Outcome.{Outcome}
 use Rattle.run_core.specs.declared.run_end.Outcome.TheVariants as outcomes
 use Rattle.run_core.specs.declared.run_end.RunEnd.{RunEnd}
-use Rattle.run_core.specs.Ran.{Ran, Came, GoneTo, Finishes, hosted, state_by, outcome_at, IsEnd}
+use Rattle.run_core.specs.Ran.{Ran, hosted, state_by, IsEnd}
+use Rattle.run_core.specs.Inside.{Came, GoneTo, Finishes, outcome_at}
 use Rattle.run_core.proofs.Kept.{holds_stored}
-use Rattle.run_core.proofs.Ints.{word_int_word}
+use Rattle.run_core.proofs.Ints.{int_of_word_of}
 use Rattle.run_core.proofs.Course.{step_by}
 
 -- the values that stand in the frame are read off it
-pub values_held : (pending : List Value) (memory : Words) → Holds memory pending → values_at memory (length pending) ≡ pending
-values_held [] memory h = refl
-values_held (v ∷ rest) memory h =
-    ap (λ w. values.Int (word_int w) ∷ values_at memory (length rest)) h.0.word
-    ∙ ap (λ i. values.Int i ∷ values_at memory (length rest)) (word_int_word h.0.int h.0.small)
-    ∙ ap (λ x. x ∷ values_at memory (length rest)) (sym h.0.is)
-    ∙ ap (λ xs. v ∷ xs) (values_held rest memory h.1)
+pub values_held : (pending : List Value) (m : Flat) → m.regs 14 ≡ first_frame → Holds m.memory pending → values_at m (length pending) ≡ pending
+values_held [] m sp h = refl
+values_held (v ∷ rest) m sp h =
+    ap (λ a. values.Int (int_of (word_at m.memory (a + 64 + 4 * length rest))) ∷ values_at m (length rest)) sp
+    ∙ ap (λ w. values.Int (int_of w) ∷ values_at m (length rest)) h.0.word
+    ∙ ap (λ i. values.Int i ∷ values_at m (length rest)) (int_of_word_of h.0.int h.0.small)
+    ∙ ap (λ x. x ∷ values_at m (length rest)) (sym h.0.is)
+    ∙ ap (λ xs. v ∷ xs) (values_held rest m sp h.1)
 
 -- a service leaves them
 pub values_served : (pending : List Value) (memory : Words) (left : ℕ) → length pending ≤ 1000 → Holds memory pending → Holds (with_left memory left) pending
@@ -37,11 +40,11 @@ values_served pending memory left few h =
     holds_stored pending (with_word memory 0x30000000 left) 0x30000004 4194304 (λ j lt. omega arith) (holds_stored pending memory 0x30000000 left (λ j lt. omega arith) h)
 
 -- a machine at a node with these values shows that state
-pub shows_at : (body : Body) (h : Hosted) (k c : ℕ) (pending : List Value) → node_at h.machine ≡ k → length pending ≡ depth body.nodes k → Holds h.machine.memory pending → count h ≡ c
+pub shows_at : (body : Body) (h : Hosted) (k c : ℕ) (pending : List Value) → node_at h.machine ≡ k → length pending ≡ depth body.nodes k → h.machine.regs 14 ≡ first_frame → Holds h.machine.memory pending → count h ≡ c
     → shown body h ≡ state_at body k pending c
-shows_at body h k c pending at deep held counted =
-    ap (λ j. record { activities = Running (record { body = body; next = j; pending = values_at h.machine.memory (depth body.nodes j) } ∷ []) ∷ []; current = 0; steps = count h }) at
-    ∙ ap (λ xs. record { activities = Running (record { body = body; next = k; pending = xs } ∷ []) ∷ []; current = 0; steps = count h }) (ap (values_at h.machine.memory) (sym deep) ∙ values_held pending h.machine.memory held)
+shows_at body h k c pending at deep sp held counted =
+    ap (λ j. record { activities = Running (record { body = body; next = j; pending = values_at h.machine (depth body.nodes j) } ∷ []) ∷ []; current = 0; steps = count h }) at
+    ∙ ap (λ xs. record { activities = Running (record { body = body; next = k; pending = xs } ∷ []) ∷ []; current = 0; steps = count h }) (ap (values_at h.machine) (sym deep) ∙ values_held pending h.machine sp held)
     ∙ ap (λ s. state_at body k pending s) counted
 
 -- what an end needs to be known by
@@ -57,7 +60,7 @@ at_stop body n k to pending ok s = record {
   last = (s.trap.trap, omega (arith, s.count));
   stands = λ h e.
       ap (shown body) e
-      ∙ shows_at body (serviced (n - to.regs 2) (record { machine = to; steps = 0 })) k n pending s.at s.deep
+      ∙ shows_at body (serviced (n - to.regs 2) (record { machine = to; steps = 0 })) k n pending s.at s.deep s.frame
       (values_served pending to.memory (n - to.regs 2) (omega (arith, ok.room k, s.deep)) s.values)
       (served_count (n - to.regs 2) n n to (serviced (n - to.regs 2) (record { machine = to; steps = 0 })) s.count refl)
       ∙ ap (state_at body k pending) (omega arith)
@@ -73,7 +76,7 @@ at_error body n c k to pending ok s = record {
   last = (
     s.trap.trap,
     omega (arith, s.count, s.below),
-    ap step (shows_at body (record { machine = to; steps = 0 }) k c pending s.at s.deep s.values (omega (arith, s.count)))
+    ap step (shows_at body (record { machine = to; steps = 0 }) k c pending s.at s.deep s.frame s.values (omega (arith, s.count)))
         ∙ step_by body k pending c (Fails (error_of (slice_get body.nodes k))) s.does
         ∙ ap (λ j. failed_by body j c) (sym s.at)
         ∙ ap (failed_by body (node_at to)) (omega (arith, s.count)),
@@ -88,8 +91,8 @@ at_answer : (body : Body) (n c : ℕ) (to : Flat) (int : ℤ) → HasFinished n 
 at_answer body n c to int s = record {
   last = (s.trap.trap, omega (arith, s.count, s.below), refl);
   stands = λ h e.
-      ap (λ w. answered_at (values.Int (word_int w)) (count h)) s.word
-      ∙ ap (λ i. answered_at (values.Int i) (count h)) (word_int_word int s.small)
+      ap (λ w. answered_at (values.Int (int_of w)) (count h)) s.word
+      ∙ ap (λ i. answered_at (values.Int i) (count h)) (int_of_word_of int s.small)
       ∙ ap (answered_at (values.Int int)) (served_count (n - to.regs 2) n c to h s.count e ∙ omega arith)
       ∙ sym s.is;
 }

@@ -19,10 +19,12 @@ use Rattle.sparc_machine.specs.Flat.{Flat, Flags}
 use Rattle.sparc_machine.specs.Alu.{add, sub, tagged, sum_flags, difference_flags}
 use Rattle.source_model.specs.State.{Body}
 use Rattle.source_model.specs.Step.{effect, Effect, Pends, Answers, Fails, primitive, checked, pended, is_small, is_plain}
-use Rattle.run_core.specs.Code.{At, IsCode, body_code, primitive_code, int_code, sum_code, end_code, failing_code, returning_code, int_word, depth, block, taken}
+use Rattle.self_terms.specs.Words.{IsSmall, word_of}
+use Rattle.run_core.specs.Code.{At, IsCode, body_code, primitive_code, int_code, sum_code, end_code, failing_code, returning_code, depth, block, taken}
 use Rattle.run_core.specs.Hosted.{first_frame}
-use Rattle.run_core.specs.Plain.{IsRunnable, error_of}
-use Rattle.run_core.specs.Standing.{Stands, Runs, Holds, IsSmall}
+use Rattle.run_core.specs.Plain.{IsRunnable}
+use Rattle.run_core.specs.Course.{error_of}
+use Rattle.run_core.specs.Standing.{Stands, Runs, Holds}
 use Rattle.run_core.specs.Course.{NodeEnd, Goes_on, Errs, Returns}
 use Rattle.run_core.proofs.Going.{goes_none}
 use Rattle.run_core.proofs.Standing.{at_trap, slot_address, has_slot, unwrapped, block_address}
@@ -35,15 +37,15 @@ use Rattle.run_core.proofs.Depth.{depth_next}
 -- a value was stored in the slot above the others, and the step was counted
 pub stored_runs : (nodes : List Node) (left c : ℕ) (pending rest : List Value) (m to : Flat) (i : ℤ)
     → Runs nodes left c pending m → Holds m.memory rest → length nodes ≤ 1024 → length rest ≤ 64 → IsSmall i
-    → to.memory ≡ with_word m.memory (first_frame + 64 + 4 * length rest) (int_word i)
+    → to.memory ≡ with_word m.memory (first_frame + 64 + 4 * length rest) (word_of i)
     → to.regs 14 ≡ m.regs 14 → to.regs 30 ≡ m.regs 30 → to.regs 31 ≡ m.regs 31 → to.older ≡ m.older → to.regs 2 ≡ c + 1
     → Runs nodes left (c + 1) (values.Int i ∷ rest) to
 stored_runs nodes left c pending rest m to i r below few near small em e14 e30 e31 eo e2 =
     let a = first_frame + 64 + 4 * length rest in
     record {
-      code = let P : Words → Type 0 = λ z. IsCode nodes z in subst P (sym em) (code_stored nodes m.memory a (int_word i) few (omega arith) r.code);
-      within = let P : Words → Type 0 = λ z. IsWithin z in subst P (sym em) (put_stays_within m.memory a (int_word i) r.within);
-      left_word = ap (λ z. word_at z 0x30000000) em ∙ others_stay m.memory a (int_word i) 0x30000000 (omega arith) ∙ r.left_word;
+      code = let P : Words → Type 0 = λ z. IsCode nodes z in subst P (sym em) (code_stored nodes m.memory a (word_of i) few (omega arith) r.code);
+      within = let P : Words → Type 0 = λ z. IsWithin z in subst P (sym em) (put_stays_within m.memory a (word_of i) r.within);
+      left_word = ap (λ z. word_at z 0x30000000) em ∙ others_stay m.memory a (word_of i) 0x30000000 (omega arith) ∙ r.left_word;
       frame = e14 ∙ r.frame;
       caller = e30 ∙ r.caller;
       returns = e31 ∙ r.returns;
@@ -54,19 +56,19 @@ stored_runs nodes left c pending rest m to i r below few near small em e14 e30 e
           int = i;
           is = refl;
           small = small;
-          word = ap (λ z. word_at z a) em ∙ put_there m.memory a (int_word i) r.within (has_slot (length rest) (omega arith));
+          word = ap (λ z. word_at z a) em ∙ put_there m.memory a (word_of i) r.within (has_slot (length rest) (omega arith));
         },
-        (let P : Words → Type 0 = λ z. Holds z rest in subst P (sym em) (holds_stored rest m.memory a (int_word i) (λ j lt. omega arith) below)),
+        (let P : Words → Type 0 = λ z. Holds z rest in subst P (sym em) (holds_stored rest m.memory a (word_of i) (λ j lt. omega arith) below)),
       );
     }
 
 -- an integer literal
 pub int_node : (body : Body) (left c k : ℕ) (pending : List Value) (m : Flat) (i : ℤ) → IsRunnable body → slice_get body.nodes k ≡ Some (nodes.Int i)
     → Runs body.nodes left c pending m → length pending ≡ depth body.nodes k → Stands m.pc m.npc (block k + 24) (block k + 24 + 4) → k < 1024 → c + 1 < 2 ^ 32
-    → At m.memory (block k + 24) (int_code (int_word i) (length pending)) → NodeEnd body left c k pending m
+    → At m.memory (block k + 24) (int_code (word_of i) (length pending)) → NodeEnd body left c k pending m
 int_node body left c k pending m i ok e r deep s0 low small_count at =
     let small = ok.small k i e in
-    let w = int_word i in
+    let w = word_of i in
     let j = length pending in
     let near : j ≤ 64 = omega (arith, ok.room k, deep) in
     let to = int_done w j m in
@@ -84,9 +86,9 @@ by_test : (op : Op3) (f : ℕ → ℕ → Flags) (r : ℕ → ℕ → ℕ) (body
     → IsSum op f r → IsRunnable body → k + 1 < length body.nodes
     → (is_small z ≡ true → effect (slice_get body.nodes k) pending ≡ Pends (values.Int z ∷ rest))
     → (is_small z ≡ false → effect (slice_get body.nodes k) pending ≡ Fails (error_of (slice_get body.nodes k)))
-    → (IsSmall z → r (int_word x) (int_word y) ≡ int_word z)
-    → (operands (length rest) m).regs 16 ≡ int_word x
-    → (operands (length rest) m).regs 17 ≡ int_word y
+    → (IsSmall z → r (word_of x) (word_of y) ≡ word_of z)
+    → (operands (length rest) m).regs 16 ≡ word_of x
+    → (operands (length rest) m).regs 17 ≡ word_of y
     → Holds m.memory rest
     → Runs body.nodes left c pending m → length rest + 2 ≤ 64 → length rest + 1 ≡ depth body.nodes (k + 1)
     → Stands m.pc m.npc (block k + 24) (block k + 24 + 4) → k < 1024 → c + 1 < 2 ^ 32
@@ -98,7 +100,7 @@ by_test op f r body left c k pending rest m x y z is ok inner does errs word e16
     let to = sum_done f r j m in
     let g = sum_goes op f r m p j is s0 (block_address k 6 low (omega arith)) (omega arith) runs.frame (omega arith) at flag in
     let is_z = small_test z small in
-    let value : r ((operands j m).regs 16) ((operands j m).regs 17) ≡ int_word z = ap (λ a. r a ((operands j m).regs 17)) e16 ∙ ap (r (int_word x)) e17 ∙ word is_z in
+    let value : r ((operands j m).regs 16) ((operands j m).regs 17) ≡ word_of z = ap (λ a. r a ((operands j m).regs 17)) e16 ∙ ap (r (word_of x)) e17 ∙ word is_z in
     Goes_on 8 to (values.Int z ∷ rest) (omega arith) g.0 (record {
       does = does small;
       inner = inner;
@@ -125,10 +127,10 @@ pub arith_node : (op : Op3) (f : ℕ → ℕ → Flags) (r : ℕ → ℕ → ℕ
     → IsSum op f r → IsRunnable body → k + 1 < length body.nodes
     → (is_small z ≡ true → effect (slice_get body.nodes k) pending ≡ Pends (values.Int z ∷ rest))
     → (is_small z ≡ false → effect (slice_get body.nodes k) pending ≡ Fails (error_of (slice_get body.nodes k)))
-    → (f (int_word x) (int_word y)).overflow ≡ not (is_small z)
-    → (IsSmall z → r (int_word x) (int_word y) ≡ int_word z)
-    → word_at m.memory (first_frame + 64 + 4 * length rest) ≡ int_word x
-    → word_at m.memory (first_frame + 64 + 4 * (length rest + 1)) ≡ int_word y
+    → (f (word_of x) (word_of y)).overflow ≡ not (is_small z)
+    → (IsSmall z → r (word_of x) (word_of y) ≡ word_of z)
+    → word_at m.memory (first_frame + 64 + 4 * length rest) ≡ word_of x
+    → word_at m.memory (first_frame + 64 + 4 * (length rest + 1)) ≡ word_of y
     → Holds m.memory rest
     → Runs body.nodes left c pending m → length rest + 2 ≤ 64 → length rest + 1 ≡ depth body.nodes (k + 1)
     → Stands m.pc m.npc (block k + 24) (block k + 24 + 4) → k < 1024 → c + 1 < 2 ^ 32
@@ -136,9 +138,9 @@ pub arith_node : (op : Op3) (f : ℕ → ℕ → Flags) (r : ℕ → ℕ → ℕ
 arith_node op f r body left c k pending rest m x y z is ok inner does errs over word hx hy below runs near deep s0 low small_count at =
     let j = length rest in
     let p = block k + 24 in
-    let e16 : (operands j m).regs 16 ≡ int_word x = ap (word_at m.memory) (slot_address (m.regs 14) j runs.frame (omega arith)) ∙ hx in
-    let e17 : (operands j m).regs 17 ≡ int_word y = ap (word_at m.memory) (slot_address (m.regs 14) (j + 1) runs.frame (omega arith)) ∙ hy in
-    let flag : (f ((operands j m).regs 16) ((operands j m).regs 17)).overflow ≡ not (is_small z) = ap (λ a. (f a ((operands j m).regs 17)).overflow) e16 ∙ ap (λ b. (f (int_word x) b).overflow) e17 ∙ over in
+    let e16 : (operands j m).regs 16 ≡ word_of x = ap (word_at m.memory) (slot_address (m.regs 14) j runs.frame (omega arith)) ∙ hx in
+    let e17 : (operands j m).regs 17 ≡ word_of y = ap (word_at m.memory) (slot_address (m.regs 14) (j + 1) runs.frame (omega arith)) ∙ hy in
+    let flag : (f ((operands j m).regs 16) ((operands j m).regs 17)).overflow ≡ not (is_small z) = ap (λ a. (f a ((operands j m).regs 17)).overflow) e16 ∙ ap (λ b. (f (word_of x) b).overflow) e17 ∙ over in
     by_test op f r body left c k pending rest m x y z is ok inner does errs word e16 e17 below runs near deep s0 low small_count at (is_small z) refl flag
 
 -- a node that is an error
@@ -175,8 +177,8 @@ named_node : (body : Body) (left c k : ℕ) (pending rest : List Value) (m : Fla
     → effect (slice_get body.nodes k) pending ≡ sum_effect rest x y one two
     → error_of (slice_get body.nodes k) ≡ named_error one two
     → IsSmall x → IsSmall y
-    → word_at m.memory (first_frame + 64 + 4 * length rest) ≡ int_word x
-    → word_at m.memory (first_frame + 64 + 4 * (length rest + 1)) ≡ int_word y
+    → word_at m.memory (first_frame + 64 + 4 * length rest) ≡ word_of x
+    → word_at m.memory (first_frame + 64 + 4 * (length rest + 1)) ≡ word_of y
     → Holds m.memory rest
     → Runs body.nodes left c pending m → length rest + 2 ≤ 64 → length rest + 1 ≡ depth body.nodes (k + 1)
     → Stands m.pc m.npc (block k + 24) (block k + 24 + 4) → k < 1024 → c + 1 < 2 ^ 32
@@ -184,12 +186,12 @@ named_node : (body : Body) (left c k : ℕ) (pending rest : List Value) (m : Fla
 named_node body left c k pending rest m x y true two ok inner does err sx sy hx hy below r near deep s0 low small_count at =
     arith_node ops.TaddCc (λ x y. tagged x y (sum_flags x y)) add body left c k pending rest m x y (x +ℤ y) is_sum ok inner
     (λ s. does ∙ small_effect rest (x +ℤ y) s) (λ b. does ∙ big_effect rest (x +ℤ y) b ∙ ap Fails (sym err))
-    (untagged_flags x y (sum_flags (int_word x) (int_word y)) sx sy ∙ sum_overflow x y sx sy) (sum_word x y sx sy)
+    (untagged_flags x y (sum_flags (word_of x) (word_of y)) sx sy ∙ sum_overflow x y sx sy) (sum_word x y sx sy)
     hx hy below r near deep s0 low small_count at
 named_node body left c k pending rest m x y false true ok inner does err sx sy hx hy below r near deep s0 low small_count at =
     arith_node ops.TsubCc (λ x y. tagged x y (difference_flags x y)) sub body left c k pending rest m x y (x -ℤ y) is_difference ok inner
     (λ s. does ∙ small_effect rest (x -ℤ y) s) (λ b. does ∙ big_effect rest (x -ℤ y) b ∙ ap Fails (sym err))
-    (untagged_flags x y (difference_flags (int_word x) (int_word y)) sx sy ∙ difference_overflow x y sx sy) (difference_word x y sx sy)
+    (untagged_flags x y (difference_flags (word_of x) (word_of y)) sx sy ∙ difference_overflow x y sx sy) (difference_word x y sx sy)
     hx hy below r near deep s0 low small_count at
 named_node body left c k pending rest m x y false false ok inner does err sx sy hx hy below r near deep s0 low small_count at =
     failing_node body left c k pending m (does ∙ ap Fails (sym err)) r s0 low at

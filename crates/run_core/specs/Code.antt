@@ -2,9 +2,11 @@
 --
 -- %g2 counts the source steps since the last service. The word at the front of the control region has what was left of the
 -- goal then. A pending value stands in the frame, 64 bytes above %sp and up, the oldest lowest.
-use Rattle.std.specs.Prelude.{◌≡◌, ℕ, zero, suc, ◌+◌, ◌-◌, ◌*◌, ◌/◌, ◌%◌, ◌^◌, List, [], ◌∷◌, ◌++◌, Bool, true, false, not, Some, slice_get, if◌then◌else◌, ℤ, pos, negsuc, nat_eq}
+use Rattle.std.specs.Prelude.{◌≡◌, ℕ, zero, suc, ◌+◌, ◌-◌, ◌*◌, ◌/◌, ◌%◌, List, [], ◌∷◌, ◌++◌, Bool, true, false, not, Some, slice_get, if◌then◌else◌, ℤ, pos, nat_eq}
+use Rattle.self_terms.specs.declared.names.TheConstants.{INT_ADD, INT_SUB}
 use Rattle.self_terms.specs.declared.nodes.Node.{Node}
 use Rattle.self_terms.specs.declared.nodes.Node.TheVariants as nodes
+use Rattle.self_terms.specs.Words.{word_of}
 use Rattle.sparc_insn.specs.declared.insn.Insn.{Insn}
 use Rattle.sparc_insn.specs.declared.insn.Insn.TheVariants.{Sethi, Branch, Three, Trap}
 use Rattle.sparc_insn.specs.declared.insn.Operand.TheVariants.{Reg, Imm}
@@ -13,11 +15,6 @@ use Rattle.sparc_insn.specs.declared.insn.Op3.TheVariants as ops
 use Rattle.sparc_insn.specs.Instructions.{instruction}
 use Rattle.sparc_store.specs.Words.{Words, word_at}
 use Rattle.source_model.specs.Step.{is_plain}
-
--- an integer i is the word 4 i modulo 2 to the 32nd
-abbrev pub int_word : ℤ → ℕ
-int_word (pos n) = 4 * n
-int_word (negsuc n) = 2 ^ 32 - 4 * (n + 1)
 
 -- the address, from %sp on, of the k-th pending value, the oldest being number 0
 abbrev pub slot : ℕ → ℤ
@@ -56,7 +53,7 @@ failing_code = Trap 8 ∷ nop ∷ nop ∷ nop ∷ nop ∷ nop ∷ nop ∷ nop �
 -- a primitive by the number of its name
 abbrev pub primitive_code : ℕ → ℕ → List Insn
 primitive_code name (suc (suc k)) =
-    if nat_eq name 1 then sum_code ops.TaddCc k else if nat_eq name 2 then sum_code ops.TsubCc k else failing_code
+    if nat_eq name INT_ADD.0 then sum_code ops.TaddCc k else if nat_eq name INT_SUB.0 then sum_code ops.TsubCc k else failing_code
 primitive_code name k = failing_code
 
 abbrev pub returning_code : ℕ → List Insn
@@ -65,7 +62,7 @@ returning_code zero = failing_code
 
 -- the code of a node over k pending values, without its poll
 abbrev pub body_code : Node → ℕ → List Insn
-body_code (nodes.Int i) k = int_code (int_word i) k
+body_code (nodes.Int i) k = int_code (word_of i) k
 body_code (nodes.Prim name args implied handler) k = if is_plain args implied handler then primitive_code name.0 k else failing_code
 body_code nodes.End k = returning_code k
 body_code _ k = failing_code

@@ -1,16 +1,27 @@
--- How the code of a node, and then of a body, comes to its end.
-use Rattle.std.specs.Prelude.{◌≡◌, ℕ, ◌+◌, ◌*◌, ◌<◌, ◌≤◌, List, [], ◌∷◌, length, slice_get, ℤ}
+-- Used by private contracts alone, by no public clause: how the code of a node, and then of a body, comes to its end.
+use Rattle.std.specs.Prelude.{◌≡◌, ℕ, ◌+◌, ◌*◌, ◌<◌, ◌≤◌, ◌&&◌, ◌||◌, List, [], ◌∷◌, length, Option, Some, slice_get, ℤ, nat_eq, if◌then◌else◌}
+use Rattle.self_terms.specs.declared.nodes.Node.{Node}
+use Rattle.self_terms.specs.declared.nodes.Node.TheVariants as nodes
+use Rattle.self_terms.specs.declared.names.TheConstants.{INT_ADD, INT_SUB}
 use Rattle.self_terms.specs.declared.values.Value.{Value}
 use Rattle.self_terms.specs.declared.values.Value.TheVariants as values
 use Rattle.self_terms.specs.declared.errors.ErrorName.{ErrorName}
+use Rattle.self_terms.specs.declared.errors.ErrorName.TheVariants as errors
+use Rattle.self_terms.specs.Words.{IsSmall, word_of}
 use Rattle.source_model.specs.State.{Body, Running, Answered, Failed, State}
-use Rattle.source_model.specs.Step.{effect, Pends, Answers, Fails, place_at}
+use Rattle.source_model.specs.Step.{effect, Pends, Answers, Fails, place_at, is_plain}
 use Rattle.sparc_machine.specs.Flat.{Flat}
-use Rattle.run_core.specs.Code.{depth, block, int_word}
+use Rattle.run_core.specs.Code.{depth, block}
+use Rattle.run_core.specs.Hosted.{first_frame}
 use Rattle.run_core.specs.Shown.{node_at}
-use Rattle.run_core.specs.Plain.{error_of}
 use Rattle.run_core.specs.Going.{Goes, IsTrap}
-use Rattle.run_core.specs.Standing.{Stands, Runs, Holds, IsSmall}
+use Rattle.run_core.specs.Standing.{Stands, Runs, Holds}
+
+-- the error of a node at which the words came to service 8: a sum or a difference has overflowed, any other isn't built
+abbrev pub error_of : Option Node → ErrorName
+error_of (Some (nodes.Prim name args implied handler)) =
+    if is_plain args implied handler && (nat_eq name.0 INT_ADD.0 || nat_eq name.0 INT_SUB.0) then errors.Overflow else errors.NotBuilt
+error_of _ = errors.NotBuilt
 
 -- one activity with one activation, which runs
 abbrev pub state_at : Body → ℕ → List Value → ℕ → State
@@ -42,7 +53,7 @@ pub record Returned (body : Body) (c k : ℕ) (pending : List Value) (int : ℤ)
   pub does : effect (slice_get body.nodes k) pending ≡ Answers (values.Int int)
   pub trap : IsTrap 9 to
   pub small : IsSmall int
-  pub word : to.regs 8 ≡ int_word int
+  pub word : to.regs 8 ≡ word_of int
   pub count : to.regs 2 ≡ c + 1
 
 pub data NodeEnd (body : Body) (left c k : ℕ) (pending : List Value) (m : Flat) : Type 0 where
@@ -54,6 +65,7 @@ pub data NodeEnd (body : Body) (left c k : ℕ) (pending : List Value) (m : Flat
 pub record HasStopped (body : Body) (left base k : ℕ) (pending : List Value) (result : State) (to : Flat) : Type 0 where
   pub is : result ≡ state_at body k pending (base + left)
   pub trap : IsTrap 2 to
+  pub frame : to.regs 14 ≡ first_frame
   pub values : Holds to.memory pending
   pub count : to.regs 2 ≡ left
   pub deep : length pending ≡ depth body.nodes k
@@ -64,6 +76,7 @@ pub record HasFailed (body : Body) (left base c k : ℕ) (pending : List Value) 
   pub is : result ≡ failed_at body (error_of (slice_get body.nodes k)) k (base + c)
   pub does : effect (slice_get body.nodes k) pending ≡ Fails (error_of (slice_get body.nodes k))
   pub trap : IsTrap 8 to
+  pub frame : to.regs 14 ≡ first_frame
   pub values : Holds to.memory pending
   pub count : to.regs 2 ≡ c
   pub deep : length pending ≡ depth body.nodes k
@@ -75,7 +88,7 @@ pub record HasFinished (left base c : ℕ) (int : ℤ) (result : State) (to : Fl
   pub is : result ≡ answered_at (values.Int int) (base + c)
   pub trap : IsTrap 9 to
   pub small : IsSmall int
-  pub word : to.regs 8 ≡ int_word int
+  pub word : to.regs 8 ≡ word_of int
   pub count : to.regs 2 ≡ c
   pub below : c ≤ left
 

@@ -3,11 +3,11 @@ ghost use Rattle.std.specs.Prelude.{◌≡◌, ◌⊎◌, ◌≤◌, ◌<◌, �
 ghost use Rattle.self_terms.specs.declared.nodes.Node.{Node};
 ghost use Rattle.sparc_insn.specs.Words.{IsInsn};
 ghost use Rattle.sparc_store.specs.Words.{word_at, IsWithin};
-ghost use Rattle.run_core.specs.Code.{poll, nop, slot, int_word, int_code, sum_code, end_code, failing_code, primitive_code, returning_code, body_code, node_code, taken, left_by, grown, At, block, ending_stub, IsCode, depth};
-ghost use Rattle.run_core.specs.Plain.{IsLow, IsSmallNode, HasRoom};
-ghost use Rattle.run_core.specs.Emitted.{EachAt, Apart, AreInsns, EachNode, CanEmit};
+ghost use Rattle.run_core.specs.Code.{poll, nop, slot, int_code, sum_code, end_code, failing_code, primitive_code, returning_code, body_code, node_code, taken, left_by, grown, At, block, ending_stub, IsCode, depth};
+ghost use Rattle.run_core.specs.Hosted.{IsOutside};
+ghost use Rattle.run_core.specs.Emitted.{EachAt, Apart, AreInsns, EachNode, CanEmit, IsSmallNode, HasRoom};
 
-use self_terms::{INT_ADD, INT_SUB, Name, Node, NodeList};
+use self_terms::{INT_ADD, INT_SUB, Name, Node, NodeList, word_of_int};
 use sparc_insn::{Insn, Op3, Operand, encode};
 use sparc_store::Memory;
 
@@ -65,14 +65,6 @@ fn poll_code() -> [Insn; 6]
         NOP,
         Insn::Trap { number: 2 },
     ]
-}
-
-// The word of an integer.
-fn int_word(int: i32) -> u32
-    requires { IsLow int }
-    ensures value { result ≡ int_word int }
-{
-    (int * 4).cast_unsigned()
 }
 
 // The offset from %sp of a pending value by its number from the oldest.
@@ -208,7 +200,7 @@ fn body_code(node: Node, depth: u32) -> [Insn; 10]
     ensures { result ≡ body_code node depth }
 {
     match node {
-        Node::Int(int) => int_code(int_word(int), depth),
+        Node::Int(int) => int_code(word_of_int(int), depth),
         Node::Prim {
             name,
             args: 1,
@@ -303,6 +295,7 @@ fn put_next(memory: &mut Memory, nodes: &NodeList, k: usize, over: u32) -> u32
     requires deep { over ≡ depth nodes.now k }
     ensures each { EachNode memory.new (k + 1) nodes.now }
     ensures deep { result ≡ depth nodes.now (k + 1) }
+    ensures apart { Apart memory.old memory.new (block k) 16 }
 {
     let node = node_at(nodes, k);
     put_node(memory, k as u32, node, over);
@@ -310,11 +303,12 @@ fn put_next(memory: &mut Memory, nodes: &NodeList, k: usize, over: u32) -> u32
 }
 
 /// Puts the code of a body into a memory: each node's at its address, and the stub to which the oldest activation
-/// returns.
+/// returns. Every other word stays as it was.
 pub fn put_body(memory: &mut Memory, nodes: &NodeList)
     requires { CanEmit nodes.now }
     ensures code { IsCode nodes.now memory.new }
     ensures within { IsWithin memory.new }
+    ensures others { (at : ℕ) → IsOutside at (block 0) (16 * length nodes.now) → IsOutside at ending_stub 1 → word_at memory.new at ≡ word_at memory.old at }
 {
     let mut depth = 0;
     for k in 0..nodes.len() {

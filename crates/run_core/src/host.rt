@@ -1,9 +1,8 @@
 // What the host does to a machine: it spawns an activity, and does the services at traps.
-ghost use Rattle.std.specs.Prelude.{◌≡◌, ◌≤◌, ◌<◌, ◌+◌, ◌-◌, ◌^◌, ℕ, List, length, IfOk, Some};
+ghost use Rattle.std.specs.Prelude.{◌≡◌, ◌<◌, ◌^◌, length, IfOk};
 ghost use Rattle.sparc_machine.specs.Held.{flat};
-ghost use Rattle.run_core.specs.Code.{block, ending_stub};
 ghost use Rattle.run_core.specs.Emitted.{CanEmit};
-ghost use Rattle.run_core.specs.Hosted.{Hosted, count, serviced, passed, Spawned, IsLoaded, IsLaid};
+ghost use Rattle.run_core.specs.Hosted.{Hosted, serviced, HoldsOnlyCode, laid, Spawned};
 
 use crate::code::{CODE, ENDING_STUB, put_body};
 use self_terms::{NodeList, OutOfMemory};
@@ -25,10 +24,10 @@ const COST_LEFT: u32 = 0x3000_0004;
 
 const MOST_COST: u32 = 4_194_304;
 
-// A memory with the code of a body.
+// A memory with the code of a body and nothing else.
 fn loaded(alloc: Global, nodes: &NodeList) -> Result<Memory, OutOfMemory>
     requires { CanEmit nodes.now }
-    ensures { IfOk result (λ m. IsLoaded nodes.now m) }
+    ensures { IfOk result (λ m. HoldsOnlyCode nodes.now m) }
 {
     let Ok(mut memory) = Memory::open(alloc, 0) else {
         return Err(AllocError);
@@ -39,8 +38,8 @@ fn loaded(alloc: Global, nodes: &NodeList) -> Result<Memory, OutOfMemory>
 
 // Lays the frame of entry and below it that of the first activation, at the service of the first node's poll.
 fn lay_frames(machine: &mut Machine)
-    requires { length (flat machine.old).older ≡ 0 }
-    ensures { IsLaid (flat machine.old) (flat machine.new) }
+    requires { length (flat machine.old).older < 4097 }
+    ensures { flat machine.new ≡ laid (flat machine.old) }
 {
     machine.set(14, ENTRY_FRAME);
     machine.enter_frame();
@@ -48,8 +47,6 @@ fn lay_frames(machine: &mut Machine)
     machine.set(31, ENDING_STUB - 8);
     machine.set(4, 1);
     machine.set(6, HEAP);
-    machine.set(2, 0);
-    machine.set(3, 0);
     machine.go_to(CODE + 20);
 }
 

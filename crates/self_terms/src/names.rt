@@ -32,9 +32,11 @@ impl Model for Names {
 }
 
 impl Names {
-    /// The names with fixed numbers: `_IntAdd:` is 1, `_IntSub:` is 2.
+    /// The names with fixed numbers: `_IntAdd:` is 1, the number of `INT_ADD`, and `_IntSub:` 2, that of `INT_SUB`.
     pub fn open(alloc: Global) -> Result<Names, AllocError>
-        ensures { IfOk result (λ names. names ≡ codes "_IntAdd:" ∷ codes "_IntSub:" ∷ []) }
+        ensures names { IfOk result (λ names. names ≡ codes "_IntAdd:" ∷ codes "_IntSub:" ∷ []) }
+        ensures add { IfOk result (λ names. text_of names INT_ADD.0 ≡ Some (codes "_IntAdd:")) }
+        ensures sub { IfOk result (λ names. text_of names INT_SUB.0 ≡ Some (codes "_IntSub:")) }
     {
         let mut names = Names {
             texts: IndexSet::new(alloc),

@@ -1,5 +1,5 @@
 // Words of the emulated machine that stand for integers and for references.
-ghost use Rattle.std.specs.Prelude.{◌≡◌, ◌≤ℤ◌, ◌<◌, ◌%◌, ◌^◌, ◌↔◌, ℤ, ℕ, pos, negsuc, IsTrue};
+ghost use Rattle.std.specs.Prelude.{◌≡◌, ◌≤◌, ◌<◌, ◌%◌, ◌^◌, ◌↔◌, ℤ, ℕ, pos, negsuc, IsTrue};
 ghost use Rattle.self_terms.specs.Words.{IsInt, IsSmall, int_of, word_of};
 
 /// A word of 32 bits: an integer, whose low two bits are 0, or a reference, an address in the heap plus 1.
@@ -14,9 +14,8 @@ pub fn word_of_int(int: i32) -> Word
     int.cast_unsigned() << 2
 }
 
-/// The integer of a word whose low two bits are 0.
+/// The integer of a word: a quarter of the word as a number with sign, rounded down where the word is no integer's.
 pub fn int_of_word(word: Word) -> i32
-    requires { IsInt word }
     ensures int { result ≡ int_of word }
     ensures small { IsSmall result }
 {

@@ -1,5 +1,6 @@
 -- One step of plain interpretation: the next node of the youngest activation of the current activity.
 use Rattle.std.specs.Prelude.{ℕ, zero, suc, ◌+◌, ◌&&◌, List, [], ◌∷◌, Bool, Option, Some, Result, Ok, Err, slice_get, slice_set, get_or, if◌then◌else◌, ℤ, pos, negsuc, ◌+ℤ◌, ◌-ℤ◌, int_le, nat_eq, not}
+use Rattle.self_terms.specs.declared.names.TheConstants.{INT_ADD, INT_SUB}
 use Rattle.self_terms.specs.declared.nodes.Node.{Node}
 use Rattle.self_terms.specs.declared.nodes.Node.TheVariants as nodes
 use Rattle.self_terms.specs.declared.nodes.Place.{Place}
@@ -20,8 +21,8 @@ checked i = if is_small i then Ok (values.Int i) else Err errors.Overflow
 -- the sum or the difference of two integers, by the name of the primitive
 abbrev pub arithmetic : ℕ → ℤ → ℤ → Result Value ErrorName
 arithmetic name x y =
-    if nat_eq name 1 then checked (x +ℤ y)
-    else if nat_eq name 2 then checked (x -ℤ y)
+    if nat_eq name INT_ADD.0 then checked (x +ℤ y)
+    else if nat_eq name INT_SUB.0 then checked (x -ℤ y)
     else Err errors.NotBuilt
 
 -- what a node comes to: the values that are pending then, or an answer, or an error
