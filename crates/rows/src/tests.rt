@@ -8,8 +8,8 @@ use self_debugger::selfdb;
 use std::alloc::{AllocError, Global};
 use std::test::Fail;
 
-// What the sink took, and the status.
-type Written = (Vec<u8>, u8);
+// What the sink took, the status, and how many calls the files had.
+type Written = (Vec<u8>, u8, u64);
 
 const RUN: &[&str] = &["run", "add.self"];
 
@@ -56,7 +56,26 @@ fn field(row: &str, number: usize) -> &str {
     }
 }
 
-// A call over a world file `add.self`, and a script. The reads of the script and the writes with these numbers fail.
+// The words as texts.
+fn texts_of(alloc: Global, words: &[&str]) -> Result<Vec<String>, AllocError> {
+    let mut texts = Vec::new(alloc);
+    for word in words {
+        texts.push(word.to_string(alloc)?)?;
+    }
+    Ok(texts)
+}
+
+// The files `other.self`, whose world is accepted too, and `add.self`. The call with this number fails, counted over
+// both.
+fn files_of(alloc: Global, world: &[u8], failed: u64) -> Result<MemFiles, AllocError> {
+    let other = world_of(alloc, "main = ( 1 _IntAdd: 1 ).~")?;
+    let mut list = Vec::new(alloc);
+    list.push(NamedFile::new("other.self".to_string(alloc)?, other))?;
+    list.push(NamedFile::new("add.self".to_string(alloc)?, world.to_vec(alloc)?))?;
+    MemFiles::new(alloc, list, vec![in alloc; failed]?)
+}
+
+// A call over the files, and a script. The reads of the script and the writes with these numbers fail.
 fn call(
     alloc: Global,
     words: &[&str],
@@ -65,17 +84,12 @@ fn call(
     failed_read: u64,
     failed_write: u64,
 ) -> Result<Written, AllocError> {
-    let mut texts = Vec::new(alloc);
-    for word in words {
-        texts.push(word.to_string(alloc)?)?;
-    }
-    let mut list = Vec::new(alloc);
-    list.push(NamedFile::new("add.self".to_string(alloc)?, world.to_vec(alloc)?))?;
-    let mut files = MemFiles::new(alloc, list, Vec::new(alloc))?;
+    let texts = texts_of(alloc, words)?;
+    let mut files = files_of(alloc, world, 0)?;
     let mut source = MemSource::new(script.to_vec(alloc)?, vec![in alloc; failed_read]?);
     let mut sink = MemSink::new(alloc, 4096, vec![in alloc; failed_write]?)?;
     let ended = selfdb(alloc, &texts, &mut files, &mut source, &mut sink);
-    Ok((sink.bytes().to_vec(alloc)?, ended.status))
+    Ok((sink.bytes().to_vec(alloc)?, ended.status, files.calls()))
 }
 
 // The core text, and this line.
@@ -85,15 +99,17 @@ fn world_of(alloc: Global, main: &str) -> Result<Vec<u8>, AllocError> {
     Ok(world)
 }
 
-// The call of a row writes the text of the row and ends with its status.
+// The call of a row writes the text of the row and ends with its status. The files have two calls: one for all bytes
+// of the world, which are fewer than 4,096, and one for its end.
 fn agrees(alloc: Global, row: &str) -> Result<bool, AllocError> {
     let world = world_of(alloc, field(row, 0))?;
     let script = bytes_of(alloc, field(row, 1))?;
     let text = bytes_of(alloc, field(row, 2))?;
-    let (written, status) = call(alloc, RUN, &world, &script, 0, 0)?;
+    let (written, status, reads) = call(alloc, RUN, &world, &script, 0, 0)?;
     Ok(
         written.as_slice() == text.as_slice()
-            && field(row, 3).as_bytes() == [b'0' + status % 10].as_slice(),
+            && field(row, 3).as_bytes() == [b'0' + status % 10].as_slice()
+            && reads == 2,
     )
 }
 
@@ -131,6 +147,43 @@ fn refuses_other_words(rt: HostRuntime) -> Result<(), Fail> {
         let written = call(rt.alloc(), words, b"", b"", 0, 0)?;
         assert_eq!(rt; written.0.as_slice(), text.as_bytes());
         assert_eq!(rt; written.1, 1);
+        // No file is read.
+        assert_eq!(rt; written.2, 0);
+    }
+    Ok(())
+}
+
+// Each call for a file, failed by its number, raises the faults of the world that the words name, and of no other file.
+#[test]
+fn reads_the_named_world_alone(rt: HostRuntime) -> Result<(), Fail> {
+    let alloc = rt.alloc();
+    let script = b"spawn main\nrun 9\n";
+    // The world, and how many calls it takes to read it: one for each 4,096 bytes of it begun, and one for its end.
+    let rows: [(Vec<u8>, u64); 3] = [
+        (world_of(alloc, "main = ( 3 _IntAdd: 4 ).~")?, 2),
+        (Vec::new(alloc), 1),
+        (vec![in alloc; b'#'; 10000]?, 4),
+    ];
+    for (world, reads) in &rows {
+        let written = call(alloc, RUN, world, script, 0, 0)?;
+        assert_eq!(rt; written.2, *reads);
+        for number in 1..*reads + 1 {
+            let mut files = files_of(alloc, world, number)?;
+            let mut source = MemSource::new(script.to_vec(alloc)?, Vec::new(alloc));
+            let mut sink = MemSink::new(alloc, 4096, Vec::new(alloc))?;
+            let ended = selfdb(
+                alloc,
+                &texts_of(alloc, RUN)?,
+                &mut files,
+                &mut source,
+                &mut sink,
+            );
+            assert_eq!(rt; ended.status, 4);
+            assert_eq!(rt; files.calls(), number);
+            assert_eq!(rt; files.faults_of("add.self"), 1);
+            assert_eq!(rt; files.faults_of("other.self"), 0);
+            assert_eq!(rt; files.faults_of("none.self"), 0);
+        }
     }
     Ok(())
 }
@@ -176,7 +229,7 @@ fn stops_where_a_device_fails(rt: HostRuntime) -> Result<(), Fail> {
     assert_eq!(rt; written.1, 0);
     let written = call(rt.alloc(), RUN, b"", script, 0, 1)?;
     assert_eq!(rt; written.1, 5);
-    let written = call(rt.alloc(), &["run", "other.self"], &world, script, 0, 0)?;
+    let written = call(rt.alloc(), &["run", "none.self"], &world, script, 0, 0)?;
     assert!(rt; written.0.is_empty());
     assert_eq!(rt; written.1, 4);
     Ok(())
