@@ -1,8 +1,8 @@
 // What a text says, piece by piece, in the order in which it is read.
-ghost use Rattle.std.specs.Prelude.{◌≡◌, length};
-ghost use Rattle.self_grammar.specs.Parts.{parts_in, followed_by};
+ghost use Rattle.std.specs.Prelude.{◌≡◌};
+ghost use Rattle.self_grammar.specs.Parts.{count_of, followed_by};
 
-use crate::signs::Spot;
+use crate::signs::{ReadKind, Spot};
 
 /// The name of a slot or message, as the numbers of its parts in order: one for all but those of several keywords.
 #[derive(Clone, Copy, Debug, PartialEq, Eq, Hash)]
@@ -30,7 +30,7 @@ impl Words {
 
     /// How many parts there are.
     pub fn count(self) -> usize
-        ensures { result ≡ length (parts_in self) }
+        ensures { result ≡ count_of self }
     {
         match self {
             Words::One(_) => 1,
@@ -149,4 +149,35 @@ pub enum Item {
         form: SlotForm,
         spot: Spot,
     },
+}
+
+/// A rule that is broken: its kind, and its place where that isn't the sign at which it is known.
+#[derive(Clone, Copy, Debug, PartialEq, Eq)]
+pub struct Breach {
+    pub kind: ReadKind,
+    pub place: Option<Spot>,
+}
+
+/// The pending values and the nodes of a body, while another one is read inside it.
+#[derive(Clone, Copy, Debug, PartialEq, Eq)]
+pub struct Held {
+    pub pending: usize,
+    pub nodes: usize,
+}
+
+/// The limits of a text.
+#[derive(Clone, Copy, Debug, PartialEq, Eq)]
+pub struct Limits {
+    /// Open parentheses, brackets and keyword messages, one inside the other.
+    pub nesting: u32,
+    /// Pending values of a body.
+    pub pending: u32,
+    /// Arguments of a body, and keyword parts of a message.
+    pub arguments: u32,
+    /// Locals of a body, without its arguments.
+    pub locals: u32,
+    /// Nodes of a body.
+    pub body: u32,
+    /// Slots, arguments and locals among them, objects and nodes of all.
+    pub size: u32,
 }
