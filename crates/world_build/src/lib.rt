@@ -1,0 +1,2 @@
+// Worlds: the objects and bodies of a text.
+#![tactic(auto)]
