@@ -27,13 +27,17 @@ abbrev pub scope : Owner → Scope
 scope owner = record { owner = owner; names = []; arguments = 0; locals = 0; plain = true; beyond = None }
 
 abbrev pub has : Scope → List ℕ → Bool
-has s n = list_any (λ m. pointwise nat_eq m n) s.names
+has s n = list_any (pointwise nat_eq n) s.names
+
+-- the names with one more, each once
+abbrev pub with_name : List (List ℕ) → List ℕ → List (List ℕ)
+with_name names n = if list_any (pointwise nat_eq n) names then names else names ++ n ∷ []
 
 abbrev pub named : List ℕ → Scope → Scope
-named n s = record s { names = s.names ++ n ∷ [] }
+named n s = record s { names = with_name s.names n }
 
 abbrev pub with_argument : List ℕ → Scope → Scope
-with_argument n s = record s { names = s.names ++ n ∷ []; arguments = s.arguments + 1 }
+with_argument n s = record s { names = with_name s.names n; arguments = s.arguments + 1 }
 
 abbrev pub first_beyond : Option Spot → Spot → Bool → Option Spot
 first_beyond (Some q) p over = Some q
