@@ -6,6 +6,8 @@ use Rattle.self_grammar.specs.declared.signs.Sign.{Sign}
 use Rattle.self_grammar.specs.declared.signs.ReadKind.{ReadKind}
 use Rattle.self_grammar.specs.declared.signs.ReadKind.TheVariants as kind
 use Rattle.self_grammar.specs.declared.signs.ReadRefusal.{ReadRefusal}
+use Rattle.self_grammar.specs.declared.pieces.Breach as declared_breach
+use Rattle.self_grammar.specs.declared.pieces.Held as declared_held
 use Rattle.self_grammar.specs.declared.pieces.Made.{Made}
 use Rattle.self_grammar.specs.declared.pieces.TextNode.{TextNode}
 use Rattle.self_grammar.specs.declared.pieces.TextNode.TheVariants as nodes
@@ -66,9 +68,8 @@ gives nodes.Return = 0
 gives nodes.End = 0
 
 -- A rule that is broken: its kind, and its place where that isn't the sign at which it is known.
-pub record Breach : Type 0 where
-  pub kind : ReadKind
-  pub place : Option Spot
+abbrev pub Breach : Type 0
+Breach = declared_breach.Breach
 
 abbrev pub here : ReadKind → Breach
 here k = record { kind = k; place = None }
@@ -81,9 +82,8 @@ when true b = b ∷ []
 when false b = []
 
 -- the pending values and the nodes of a body, while another one is read inside it
-pub record Held : Type 0 where
-  pub pending : ℕ
-  pub nodes : ℕ
+abbrev pub Held : Type 0
+Held = declared_held.Held
 
 -- What is counted before a sign: the open parentheses, brackets and keyword messages of the whole text; the pending values
 -- and the nodes of this body, and those of the bodies around it; the slots, objects and nodes of the whole text. Then what

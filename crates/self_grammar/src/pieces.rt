@@ -2,7 +2,7 @@
 ghost use Rattle.std.specs.Prelude.{◌≡◌, length};
 ghost use Rattle.self_grammar.specs.Parts.{parts_in, followed_by};
 
-use crate::signs::Spot;
+use crate::signs::{ReadKind, Spot};
 
 /// The name of a slot or message, as the numbers of its parts in order: one for all but those of several keywords.
 #[derive(Clone, Copy, Debug, PartialEq, Eq, Hash)]
@@ -149,4 +149,18 @@ pub enum Item {
         form: SlotForm,
         spot: Spot,
     },
+}
+
+/// A rule that is broken: its kind, and its place where that isn't the sign at which it is known.
+#[derive(Clone, Copy, Debug, PartialEq, Eq)]
+pub struct Breach {
+    pub kind: ReadKind,
+    pub place: Option<Spot>,
+}
+
+/// The pending values and the nodes of a body, while another one is read inside it.
+#[derive(Clone, Copy, Debug, PartialEq, Eq)]
+pub struct Held {
+    pub pending: usize,
+    pub nodes: usize,
 }
