@@ -8,6 +8,7 @@ use Rattle.self_grammar.specs.declared.signs.ReadKind.TheVariants as kind
 use Rattle.self_grammar.specs.declared.signs.ReadRefusal.{ReadRefusal}
 use Rattle.self_grammar.specs.declared.pieces.Breach as declared_breach
 use Rattle.self_grammar.specs.declared.pieces.Held as declared_held
+use Rattle.self_grammar.specs.declared.pieces.Limits as declared_limits
 use Rattle.self_grammar.specs.declared.pieces.Made.{Made}
 use Rattle.self_grammar.specs.declared.pieces.TextNode.{TextNode}
 use Rattle.self_grammar.specs.declared.pieces.TextNode.TheVariants as nodes
@@ -17,13 +18,8 @@ use Rattle.self_grammar.specs.declared.pieces.Item.{Item}
 use Rattle.self_grammar.specs.declared.pieces.Item.TheVariants as items
 
 -- the limits of a text
-pub record Limits : Type 0 where
-  pub nesting : ℕ
-  pub pending : ℕ
-  pub arguments : ℕ
-  pub locals : ℕ
-  pub body : ℕ
-  pub size : ℕ
+abbrev pub Limits : Type 0
+Limits = declared_limits.Limits
 
 abbrev pub node : Spot → TextNode → Made
 node p n = record { node = n; spot = p }

@@ -164,3 +164,20 @@ pub struct Held {
     pub pending: usize,
     pub nodes: usize,
 }
+
+/// The limits of a text.
+#[derive(Clone, Copy, Debug, PartialEq, Eq)]
+pub struct Limits {
+    /// Open parentheses, brackets and keyword messages, one inside the other.
+    pub nesting: usize,
+    /// Pending values of a body.
+    pub pending: usize,
+    /// Arguments of a body, and keyword parts of a message.
+    pub arguments: usize,
+    /// Locals of a body, without its arguments.
+    pub locals: usize,
+    /// Nodes of a body.
+    pub body: usize,
+    /// Slots, arguments and locals among them, objects and nodes of all.
+    pub size: usize,
+}
