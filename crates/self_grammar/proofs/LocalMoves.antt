@@ -5,12 +5,14 @@ use Rattle.self_grammar.specs.declared.signs.Role.{Role}
 use Rattle.self_grammar.specs.declared.signs.Role.TheVariants.{Equals, Arrow, Star, Other}
 use Rattle.self_grammar.specs.declared.signs.Symbol.{Symbol}
 use Rattle.self_grammar.specs.declared.signs.Symbol.TheVariants as sign
+use Rattle.self_grammar.specs.declared.pieces.Item.TheVariants as items
 use Rattle.self_grammar.specs.Grammar as g
-use Rattle.self_grammar.specs.Counts.{Limits, Context, quiet}
+use Rattle.self_grammar.specs.Counts.{Limits, Context, quiet, saying}
 use Rattle.self_grammar.specs.Scopes.{again}
+use Rattle.self_grammar.specs.Spelling as s
 use Rattle.self_grammar.proofs.Settled.{name_scope}
 use Rattle.self_grammar.proofs.Places.{OperandHole, in_block, statement, alone}
-use Rattle.self_grammar.proofs.Moves.{wanting, at_local, local_named, local_equals, local_arrow, local_done, Move, simply, stay, tell, block_scope, word, label, any}
+use Rattle.self_grammar.proofs.Moves.{wanting, at_local, local_named, local_equals, local_arrow, local_done, Move, simply, stay, tell, place, block_scope, word, label, any}
 use Rattle.self_grammar.proofs.SlotMoves.{name_event, argument_event, if_free}
 
 -- what ends a slot of a block
@@ -23,9 +25,10 @@ after_symbol period = sign.Period
 after_symbol bar = sign.Bar
 
 abbrev pub done_move : OperandHole → Spot → Spot → g.LocalsBefore → g.Local → (Context → Context) → After → Spot → Option Move
-done_move h q d ws x pre period b = Some (record { pre = pre; event = quiet; post = stay; to = at_local h q d (g.more_locals ws x b) })
+done_move h q d ws x pre period b =
+    Some (record { pre = λ c. place (s.local_items x) (pre c); event = quiet; post = stay; to = at_local h q d (g.more_locals ws x b) })
 done_move h q d ws x pre bar b =
-    Some (record { pre = pre; event = quiet; post = stay; to = wanting (alone (statement (in_block h q (g.present d (g.locals_last ws x) b)) g.none)) })
+    Some (record { pre = λ c. place (s.local_items x) (pre c); event = quiet; post = stay; to = wanting (alone (statement (in_block h q (g.present d (g.locals_last ws x) b)) g.none)) })
 
 abbrev pub local_move : Limits → OperandHole → Spot → Spot → g.LocalsBefore → Symbol → Spot → Option Move
 local_move l h q d ws (sign.Name n t r) b = if_free r (simply (name_event l (block_scope l ws) (label n t b)) (local_named h q d ws (label n t b)))
@@ -50,15 +53,15 @@ local_named_move l h q d ws w _ b = None
 
 -- simple contents, of a slot that they make
 abbrev pub contents_move : OperandHole → Spot → Spot → g.LocalsBefore → (g.Simple → g.Local) → Symbol → Spot → Option Move
-contents_move h q d ws f (sign.Integer z) b = simply quiet (local_done h q d ws (f (g.integer z b)))
-contents_move h q d ws f (sign.Text i j) b = simply quiet (local_done h q d ws (f (g.string (record { start = i; end = j; spot = b }))))
-contents_move h q d ws f (sign.Name n t r) b = simply quiet (local_done h q d ws (f (g.path (g.named (any n t r b)))))
+contents_move h q d ws f (sign.Integer z) b = simply (saying (items.Integer z)) (local_done h q d ws (f (g.integer z b)))
+contents_move h q d ws f (sign.Text i j) b = simply (saying (items.Text i j)) (local_done h q d ws (f (g.string (record { start = i; end = j; spot = b }))))
+contents_move h q d ws f (sign.Name n t r) b = simply (saying (items.Root n b)) (local_done h q d ws (f (g.path (g.named (any n t r b)))))
 contents_move h q d ws f _ b = None
 
 abbrev pub longer : OperandHole → Spot → Spot → g.LocalsBefore → (g.Simple → g.Local) → g.Simple → g.AnyName → Option Move
 longer h q d ws f (g.integer z c) w = None
 longer h q d ws f (g.string t) w = None
-longer h q d ws f (g.path p) w = simply quiet (local_done h q d ws (f (g.path (g.under p w))))
+longer h q d ws f (g.path p) w = simply (saying (items.Further w.label.name w.label.spot)) (local_done h q d ws (f (g.path (g.under p w))))
 
 abbrev pub path_move : OperandHole → Spot → Spot → g.LocalsBefore → g.Local → g.AnyName → Option Move
 path_move h q d ws (g.local_argument w) y = None

@@ -8,12 +8,17 @@ use Rattle.self_grammar.specs.declared.signs.Role.{Role}
 use Rattle.self_grammar.specs.declared.signs.Role.TheVariants.{Equals, Arrow, Star, Other}
 use Rattle.self_grammar.specs.declared.signs.Symbol.{Symbol}
 use Rattle.self_grammar.specs.declared.signs.Symbol.TheVariants as sign
+use Rattle.self_grammar.specs.declared.pieces.Words.TheVariants.{One}
+use Rattle.self_grammar.specs.declared.pieces.Target.TheVariants.{Implied}
+use Rattle.self_grammar.specs.declared.pieces.TextNode.TheVariants as nodes
+use Rattle.self_grammar.specs.declared.pieces.Made.{Made}
+use Rattle.self_grammar.specs.declared.pieces.Item.{Item}
 use Rattle.self_grammar.specs.Grammar as g
-use Rattle.self_grammar.specs.Counts.{Limits, Breach, Made, Mark, Context, Event, Writer, write, quiet, opening, closing, makes, node}
+use Rattle.self_grammar.specs.Counts.{Limits, Breach, Mark, Context, Event, Writer, write, quiet, opening, closing, makes, placing, node}
 use Rattle.self_grammar.specs.Scopes.{Scope, scope, holder, activation, too_many_arguments}
 use Rattle.self_grammar.proofs.Settled.{locals_scope}
 use Rattle.self_grammar.specs.Spelling as s
-use Rattle.self_grammar.proofs.Places.{Lists, Start, Contents, DataHole, CodeHole, in_method, in_slotted, in_block, Hole, statement, returning, in_group, argument, OperandHole, alone, right}
+use Rattle.self_grammar.proofs.Places.{Lists, Start, Contents, DataHole, CodeHole, in_method, in_slotted, in_block, Hole, statement, returning, in_group, argument, OperandHole, alone, right, block_opening}
 use Rattle.self_grammar.proofs.Places as p
 
 -- Where a sign stands. In code: a unary is wanted (an expression, or a statement, by what surrounds it); there is one;
@@ -71,25 +76,28 @@ stay c = c
 abbrev pub tell : List Breach → Context → Context
 tell bs c = record c { late = c.late ++ bs }
 
+abbrev pub place : List Item → Context → Context
+place is c = record c { ready = c.ready ++ is }
+
 -- the scope of a block's slots
 abbrev pub block_scope : Limits → g.LocalsBefore → Scope
 block_scope l ws = locals_scope l ws (scope activation)
 
 abbrev pub block_list : Limits → OperandHole → Spot → Spot → g.LocalsBefore → Writer → List Mark
 block_list l h q b ws k =
-    p.operand_said l h (write l sign.OpenBracket q (record (makes q 0 1) { opens = true }) (λ c. write l sign.Bar b quiet (s.locals_before l ws (λ t. k) (scope activation)) (enter c)))
+    p.operand_said l h (write l sign.OpenBracket q (block_opening q) (λ c. write l sign.Bar b quiet (s.locals_before l ws (λ t. k) (scope activation)) (enter c)))
 
 -- the slots of what may be a method, from its parenthesis on, and of what is none
 abbrev pub bars_said : Limits → Contents → Spot → Spot → g.Slots → s.Listing → List Mark
-bars_said l h q b sl k = p.contents l h (write l sign.OpenParen q (record opening { next = s.wants_bar (p.named_of l h) }) (write l sign.Bar b quiet (s.slots l sl k (p.named_of l h).inner)))
+bars_said l h q b sl k = p.contents l h (write l sign.OpenParen q (record (s.opening_item q) { next = s.wants_bar (p.named_of l h) }) (write l sign.Bar b quiet (s.slots l sl k (p.named_of l h).inner)))
 
 abbrev pub data_bars_said : Limits → DataHole → Spot → Spot → g.Slots → s.Listing → List Mark
-data_bars_said l h q b sl k = p.data_hole l h (write l sign.OpenParen q opening (write l sign.Bar b quiet (s.slots l sl k (scope holder))))
+data_bars_said l h q b sl k = p.data_hole l h (write l sign.OpenParen q (s.opening_item q) (write l sign.Bar b quiet (s.slots l sl k (scope holder))))
 
 abbrev pub text_said : Limits → p.Text → Writer → List Mark
 text_said l (p.world (g.world_ended ms q)) k = s.members_before l ms (λ t. write l sign.End q quiet k) (scope holder) (s.at_first 1)
-text_said l (p.world (g.world_last ms m q)) k = s.members_before l ms (s.member l m (λ t. write l sign.End q quiet k)) (scope holder) (s.at_first 1)
-text_said l (p.edit (g.edit m r q)) k = s.method_slot l m (λ t. s.stopped l r (write l sign.End q quiet k)) (scope holder) (s.at_first 0)
+text_said l (p.world (g.world_last ms m q)) k = s.members_before l ms (s.member l m (λ t. placing (s.member_items m) (write l sign.End q quiet k))) (scope holder) (s.at_first 1)
+text_said l (p.edit (g.edit m r q)) k = s.method_slot l m (λ t. placing (s.method_items m) (s.stopped l r (write l sign.End q quiet k))) (scope holder) (s.at_first 0)
 
 -- what was written before a place, and then the rest
 abbrev pub before : Limits → Place → Writer → List Mark
@@ -97,7 +105,7 @@ before l (wanting h) k = p.operand_said l h k
 before l (having h u) k = p.operand_said l h (s.unary l u k)
 before l (delegated h d) k = p.operand_said l h (s.delegate l d k)
 before l (ended h ss q e d) k =
-    p.code_said l h (s.statements l ss (write l sign.Caret q quiet (s.expression l e (λ c. write l sign.Period d quiet k (owe (node q 1 0) c)))))
+    p.code_said l h (s.statements l ss (write l sign.Caret q quiet (s.expression l e (λ c. write l sign.Period d quiet k (owe (node q nodes.Return) c)))))
 before l (behind h m) k = p.contents l h (s.method l (p.named_of l h) m k)
 before l (at_slot h) k = p.start l h k
 before l (named h w) k = p.start l h (s.slot_name l w (λ t. k) (p.start_scope l h))
@@ -110,15 +118,16 @@ before l (keyword_wanting h n q) k =
     p.start l h (s.keyword_head l n (λ t i. s.part l q (record quiet { broken = too_many_arguments l (s.count (s.head_name n)) }) k) (p.start_scope l h))
 before l (holding h) k = p.contents l h k
 before l (data_wanted h) k = p.data_hole l h k
-before l (opened h q) k = p.contents l h (write l sign.OpenParen q (record opening { next = s.wants_bar (p.named_of l h) }) k)
-before l (data_opened h q) k = p.data_hole l h (write l sign.OpenParen q opening k)
+before l (opened h q) k = p.contents l h (write l sign.OpenParen q (record (s.opening_item q) { next = s.wants_bar (p.named_of l h) }) k)
+before l (data_opened h q) k = p.data_hole l h (write l sign.OpenParen q (s.opening_item q) k)
 before l (shut h q b sl b2) k = bars_said l h q b sl (λ t. write l sign.Bar b2 (record quiet { broken = s.at_bar (p.named_of l h) t }) k)
 before l (data_shut h q b sl b2) k = data_bars_said l h q b sl (λ t. write l sign.Bar b2 quiet k)
 before l (member_done h m) k = p.lists l h (s.member l m (λ t. k) (p.scope_of l h))
 before l (argument_done (p.in_world ms) w) k = p.lists l (p.in_world ms) k
 before l (argument_done (p.in_bars h q d ss) w) k = p.lists l (p.in_bars h q d ss) (s.argument l w (λ t. k) (p.scope_of l (p.in_bars h q d ss)))
 before l (argument_done (p.in_object h q d ss) w) k = p.lists l (p.in_object h q d ss) (s.argument l w (λ t. k) (p.scope_of l (p.in_object h q d ss)))
-before l (lone_stopped h e m b) k = p.contents l (p.coded p.lone h e) (s.method l (p.named_of l (p.coded p.lone h e)) m (write l sign.Period b quiet k))
+before l (lone_stopped h e m b) k =
+    p.contents l (p.coded p.lone h e) (s.method l (p.named_of l (p.coded p.lone h e)) m (placing (s.method_items (g.method h e m)) (write l sign.Period b quiet k)))
 before l (at_local h q b ws) k = block_list l h q b ws k
 before l (local_named h q b ws w) k = block_list l h q b ws (s.slot_name l w (λ t. k) (block_scope l ws))
 before l (local_equals h q b ws w e) k = block_list l h q b ws (s.slot_name l w (λ t. s.mark l Equals e quiet k) (block_scope l ws))
@@ -147,7 +156,7 @@ closed (right h o r us) u = g.several o r us u
 
 abbrev pub operated : OperandHole → Context → Context
 operated (alone h) c = c
-operated (right h o r us) c = owe (s.operator_node us) c
+operated (right h o r us) c = owe (s.operator_node o us) c
 
 -- where an expression ends, all open messages closed
 pub data End : Type 0 where
@@ -163,13 +172,13 @@ unwinds (argument h m) e = unwinds h (g.keyed m e)
 
 abbrev pub unwound : Hole → Context → Context
 unwound (statement h ss) c = c
-unwound (returning h ss q) c = owe (node q 1 0) c
+unwound (returning h ss q) c = owe (node q nodes.Return) c
 unwound (in_group h q) c = c
 unwound (argument h m) c = unwound h (finish (owe (s.message_node m) c))
 
 abbrev pub end_said : Limits → End → Writer → List Mark
 end_said l (at_statement h ss e) k = p.code_said l h (s.statements l ss (s.expression l e k))
-end_said l (at_return h ss q e) k = p.code_said l h (s.statements l ss (write l sign.Caret q quiet (s.expression l e (λ c. k (owe (node q 1 0) c)))))
+end_said l (at_return h ss q e) k = p.code_said l h (s.statements l ss (write l sign.Caret q quiet (s.expression l e (λ c. k (owe (node q nodes.Return) c)))))
 end_said l (at_group h q e) k = p.operand_said l h (write l sign.OpenParen q opening (s.expression l e k))
 
 pub unwound_said : (l : Limits) (h : Hole) (e : g.Expression) (k : Writer) → p.said l h (s.expression l e (λ c. k (unwound h c))) ≡ end_said l (unwinds h e) k
@@ -217,7 +226,7 @@ moving pre e (Some q) = Some (record { pre = pre; event = e; post = stay; to = q
 
 -- a sign that ends an expression
 abbrev pub end_move : End → (Context → Context) → Stop → Spot → Option Move
-end_move (at_statement h ss e) pre period b = Some (record { pre = pre; event = quiet; post = owe (node b 1 0); to = wanting (alone (statement h (g.more ss e b))) })
+end_move (at_statement h ss e) pre period b = Some (record { pre = pre; event = quiet; post = owe (node b nodes.Drop); to = wanting (alone (statement h (g.more ss e b))) })
 end_move (at_statement h ss e) pre paren b = moving pre (s.ending (g.full (g.code ss None e None)) b) (body_end h (g.code ss None e None) b paren)
 end_move (at_statement h ss e) pre bracket b = moving pre (s.ending (g.full (g.code ss None e None)) b) (body_end h (g.code ss None e None) b bracket)
 end_move (at_return h ss q e) pre period b = Some (record { pre = pre; event = quiet; post = stay; to = ended h ss q e b })
@@ -238,9 +247,9 @@ any n t r b = record { label = label n t b; reserved = r }
 
 -- where a unary is wanted
 abbrev pub name_move : OperandHole → g.Label → Reserved → Option Move
-name_move h w Free = simply (makes w.spot 0 1) (having h (g.name w))
-name_move h w Itself = simply (makes w.spot 0 1) (having h (g.itself w))
-name_move h w Resend = simply (makes w.spot 0 1) (having h (g.resend_name w))
+name_move h w Free = simply (makes w.spot (nodes.Message Implied (One w.name) 0)) (having h (g.name w))
+name_move h w Itself = simply (makes w.spot nodes.Itself) (having h (g.itself w))
+name_move h w Resend = simply (makes w.spot (nodes.Message Implied (One w.name) 0)) (having h (g.resend_name w))
 
 abbrev pub delegate_move : OperandHole → g.Word → Reserved → Option Move
 delegate_move h w Free = simply quiet (delegated h (g.to_parent w))
@@ -292,17 +301,17 @@ bar_move (alone (argument h m)) b = None
 bar_move (right h o r us) b = None
 
 abbrev pub begin_move : OperandHole → Symbol → Spot → Option Move
-begin_move h (sign.Integer z) b = simply (makes b 0 1) (having h (g.int z b))
-begin_move h (sign.Text i j) b = simply (makes b 0 1) (having h (g.str (record { start = i; end = j; spot = b })))
+begin_move h (sign.Integer z) b = simply (makes b (nodes.Integer z)) (having h (g.int z b))
+begin_move h (sign.Text i j) b = simply (makes b (nodes.Text i j)) (having h (g.str (record { start = i; end = j; spot = b })))
 begin_move h (sign.Name n t r) b = name_move h (label n t b) r
-begin_move h (sign.Primitive n) b = simply (makes b 0 1) (having h (g.primitive (word n b)))
-begin_move h sign.Restart b = simply (makes b 0 1) (having h (g.restart b))
+begin_move h (sign.Primitive n) b = simply (makes b (nodes.Primitive (One n) 0 true false)) (having h (g.primitive (word n b)))
+begin_move h sign.Restart b = simply (makes b nodes.Restart) (having h (g.restart b))
 begin_move h (sign.Keyword n) b = opening_move h (g.ordinary (word n b))
 begin_move h (sign.PrimitiveKeyword n k) b = opening_move h (g.primitive_keyword (word n b) k)
 begin_move h (sign.Delegate n r) b = delegate_move h (word n b) r
 begin_move h sign.OpenParen b = simply opening (wanting (alone (in_group h b)))
 begin_move h sign.OpenBracket b =
-    Some (record { pre = stay; event = record (makes b 0 1) { opens = true }; post = enter; to = wanting (alone (statement (in_block h b g.absent) g.none)) })
+    Some (record { pre = stay; event = block_opening b; post = enter; to = wanting (alone (statement (in_block h b g.absent) g.none)) })
 begin_move h sign.Caret b = caret_move h b
 begin_move h sign.Bar b = bar_move h b
 begin_move h sign.CloseParen b = stopped_move h paren b
@@ -320,7 +329,7 @@ same_role _ _ = false
 abbrev pub operator_move : OperandHole → g.Unary → ℕ → Role → Spot → Option Move
 operator_move (alone h) u o r b = simply quiet (wanting (right h o r (g.first u b)))
 operator_move (right h p q us) u o r b =
-    cond ((p == o) && same_role q r) (Some (record { pre = owe (s.operator_node us); event = quiet; post = stay; to = wanting (right h p q (g.next us u b)) })) None
+    cond ((p == o) && same_role q r) (Some (record { pre = owe (s.operator_node p us); event = quiet; post = stay; to = wanting (right h p q (g.next us u b)) })) None
 
 abbrev pub keyword_move : OperandHole → g.Unary → g.Opening → Option Move
 keyword_move h u w = Some (record { pre = operated h; event = opening; post = stay; to = wanting (alone (argument (hole_of h) (g.opened (g.given (closed h u)) w))) })
@@ -336,8 +345,8 @@ abbrev pub stop_move : OperandHole → g.Unary → Stop → Spot → Option Move
 stop_move h u x b = end_move (unwinds (hole_of h) (g.plain (closed h u))) (λ c. unwound (hole_of h) (operated h c)) x b
 
 abbrev pub having_move : Limits → OperandHole → g.Unary → Symbol → Spot → Option Move
-having_move l h u (sign.Name n t r) b = simply (makes b 1 1) (having h (g.sent u (any n t r b)))
-having_move l h u (sign.Primitive n) b = simply (makes b 1 1) (having h (g.sent_primitive u (word n b)))
+having_move l h u (sign.Name n t r) b = simply (makes b (s.unary_message n)) (having h (g.sent u (any n t r b)))
+having_move l h u (sign.Primitive n) b = simply (makes b (nodes.Primitive (One n) 0 false false)) (having h (g.sent_primitive u (word n b)))
 having_move l h u (sign.Operator o r) b = operator_move h u o r b
 having_move l h u (sign.Keyword n) b = keyword_move h u (g.ordinary (word n b))
 having_move l h u (sign.PrimitiveKeyword n k) b = keyword_move h u (g.primitive_keyword (word n b) k)
@@ -357,7 +366,7 @@ delegate_keyword (alone h) d w = simply opening (wanting (alone (argument h (g.r
 delegate_keyword (right h p q us) d w = None
 
 abbrev pub delegated_move : OperandHole → g.Delegate → Symbol → Spot → Option Move
-delegated_move h d (sign.Name n t r) b = simply (makes (s.delegate_spot d) 0 1) (having h (g.resent d (any n t r b)))
+delegated_move h d (sign.Name n t r) b = simply (makes (s.delegate_spot d) (nodes.Message (s.delegate_target d) (One n) 0)) (having h (g.resent d (any n t r b)))
 delegated_move h d (sign.Operator o r) b = delegate_operator h d o r b
 delegated_move h d (sign.Keyword n) b = delegate_keyword h d (word n b)
 delegated_move h d _ b = None

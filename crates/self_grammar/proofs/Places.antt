@@ -1,12 +1,14 @@
 -- The grammar's one-hole contexts: what has been read of a text, up to a place where a part of some kind is wanted.
 -- Each is spelled before what stands in it (`said`), and each can be closed to a text, whatever stands in it.
-use Rattle.std.specs.Prelude.{ℕ, true, None, Some, pos, List}
+use Rattle.std.specs.Prelude.{ℕ, true, None, Some, pos, List, [], ◌∷◌}
 use Rattle.self_grammar.specs.declared.signs.Spot.{Spot}
 use Rattle.self_grammar.specs.declared.signs.Role.{Role}
 use Rattle.self_grammar.specs.declared.signs.Role.TheVariants.{Equals, Star}
 use Rattle.self_grammar.specs.declared.signs.Symbol.TheVariants as sign
+use Rattle.self_grammar.specs.declared.pieces.TextNode.TheVariants as nodes
+use Rattle.self_grammar.specs.declared.pieces.Item.TheVariants as items
 use Rattle.self_grammar.specs.Grammar as g
-use Rattle.self_grammar.specs.Counts.{Limits, Mark, Writer, write, quiet, opening, makes, entering, telling}
+use Rattle.self_grammar.specs.Counts.{Limits, Mark, Event, Writer, write, quiet, opening, makes, entering, telling}
 use Rattle.self_grammar.specs.Scopes.{Scope, scope, holder}
 use Rattle.self_grammar.specs.Spelling as s
 use Rattle.self_grammar.proofs.Settled.{name_scope, set_scope, head_named, before_scope, members_scope}
@@ -80,13 +82,17 @@ abbrev pub data_scope : Limits → DataHole → Scope
 data_scope l (assigned h w a) = set_scope l w (scope_of l h)
 data_scope l (parental h w x e) = name_scope l w (scope_of l h)
 
+-- the bracket of a block
+abbrev pub block_opening : Spot → Event
+block_opening p = record (makes p nodes.Block) { says = items.Opened p ∷ []; opens = true }
+
 -- What was written before a hole, and then the rest.
 abbrev mutual
   pub lists : Limits → Lists → Writer → List Mark
   lists l (in_world ms) k = s.members_before l ms (λ t. k) (scope holder) (s.at_first 1)
   lists l (in_bars h p b ss) k =
-      contents l h (write l sign.OpenParen p (record opening { next = s.wants_bar (named_of l h) }) (write l sign.Bar b quiet (s.slots_before l ss (λ t. k) (named_of l h).inner)))
-  lists l (in_object h p b ss) k = data_hole l h (write l sign.OpenParen p opening (write l sign.Bar b quiet (s.slots_before l ss (λ t. k) (scope holder))))
+      contents l h (write l sign.OpenParen p (record (s.opening_item p) { next = s.wants_bar (named_of l h) }) (write l sign.Bar b quiet (s.slots_before l ss (λ t. k) (named_of l h).inner)))
+  lists l (in_object h p b ss) k = data_hole l h (write l sign.OpenParen p (s.opening_item p) (write l sign.Bar b quiet (s.slots_before l ss (λ t. k) (scope holder))))
 
   pub start : Limits → Start → Writer → List Mark
   start l (listed h) k = lists l h k
@@ -102,11 +108,11 @@ abbrev mutual
 
 abbrev mutual
   pub code_said : Limits → CodeHole → Writer → List Mark
-  code_said l (in_method h p) k = contents l h (write l sign.OpenParen p (record opening { next = s.wants_bar (named_of l h) }) (entering k))
+  code_said l (in_method h p) k = contents l h (write l sign.OpenParen p (record (s.opening_item p) { next = s.wants_bar (named_of l h) }) (entering k))
   code_said l (in_slotted h p b ss b2) k =
-      contents l h (write l sign.OpenParen p (record opening { next = s.wants_bar (named_of l h) })
+      contents l h (write l sign.OpenParen p (record (s.opening_item p) { next = s.wants_bar (named_of l h) })
       (write l sign.Bar b quiet (s.slots l ss (λ t. write l sign.Bar b2 (record quiet { broken = s.at_bar (named_of l h) t }) (entering (telling (s.at_code (named_of l h) t) k))) (named_of l h).inner)))
-  code_said l (in_block h p bs) k = operand_said l h (write l sign.OpenBracket p (record (makes p 0 1) { opens = true }) (entering (s.bars l bs k)))
+  code_said l (in_block h p bs) k = operand_said l h (write l sign.OpenBracket p (block_opening p) (entering (s.bars l bs k)))
 
   pub said : Limits → Hole → Writer → List Mark
   said l (statement h ss) k = code_said l h (s.statements l ss k)

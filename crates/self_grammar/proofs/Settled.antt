@@ -4,7 +4,7 @@ use Rattle.std.proofs.Common.{ap, sym, ◌∙◌}
 use Rattle.self_grammar.specs.declared.signs.Symbol.TheVariants as sign
 use Rattle.self_grammar.specs.declared.signs.Role.TheVariants.{Equals}
 use Rattle.self_grammar.specs.Grammar as g
-use Rattle.self_grammar.specs.Counts.{Limits, Writer, write, quiet}
+use Rattle.self_grammar.specs.Counts.{Limits, Writer, write, quiet, placing}
 use Rattle.self_grammar.specs.Scopes.{Scope, scope, either, activation, named, with_argument, with_local, not_plain, too_many_arguments}
 use Rattle.self_grammar.specs.Spelling as s
 
@@ -94,23 +94,23 @@ slot_settles l (g.argument w) k t = refl
 pub before_settles : (l : Limits) (ss : g.SlotsBefore) (k : s.Listing) (t : Scope) → s.slots_before l ss k t ≡ s.slots_before l ss (λ u. k (before_scope l ss t)) t
 before_settles l g.no_slots k t = refl
 before_settles l (g.more_slots ss x p) k t =
-    before_settles l ss (s.slot l x (λ u. write l sign.Period p quiet (k u))) t
-    ∙ ap (λ w. s.slots_before l ss (λ u. w) t) (slot_settles l x (λ u. write l sign.Period p quiet (k u)) (before_scope l ss t))
-    ∙ sym (before_settles l ss (s.slot l x (λ u. write l sign.Period p quiet (k (slot_scope l x (before_scope l ss t))))) t)
+    before_settles l ss (s.slot l x (λ u. placing (s.slot_items x) (write l sign.Period p quiet (k u)))) t
+    ∙ ap (λ w. s.slots_before l ss (λ u. w) t) (slot_settles l x (λ u. placing (s.slot_items x) (write l sign.Period p quiet (k u))) (before_scope l ss t))
+    ∙ sym (before_settles l ss (s.slot l x (λ u. placing (s.slot_items x) (write l sign.Period p quiet (k (slot_scope l x (before_scope l ss t)))))) t)
 
 pub slots_settle : (l : Limits) (ss : g.Slots) (k : s.Listing) (t : Scope) → s.slots l ss k t ≡ s.slots l ss (λ u. k (slots_scope l ss t)) t
 slots_settle l (g.slots_ended ss) k t = before_settles l ss k t
 slots_settle l (g.slots_last ss x) k t =
-    before_settles l ss (s.slot l x k) t
-    ∙ ap (λ w. s.slots_before l ss (λ u. w) t) (slot_settles l x k (before_scope l ss t))
-    ∙ sym (before_settles l ss (s.slot l x (λ u. k (slot_scope l x (before_scope l ss t)))) t)
+    before_settles l ss (s.slot l x (λ u. placing (s.slot_items x) (k u))) t
+    ∙ ap (λ w. s.slots_before l ss (λ u. w) t) (slot_settles l x (λ u. placing (s.slot_items x) (k u)) (before_scope l ss t))
+    ∙ sym (before_settles l ss (s.slot l x (λ u. placing (s.slot_items x) (k (slot_scope l x (before_scope l ss t))))) t)
 
 pub members_settles : (l : Limits) (ms : g.MembersBefore) (k : s.Listing) (t : Scope) → s.members_before l ms k t ≡ s.members_before l ms (λ u. k (members_scope l ms t)) t
 members_settles l g.no_members k t = refl
 members_settles l (g.more_members ms m p) k t =
-    members_settles l ms (s.member l m (λ u. write l sign.Period p quiet (k u))) t
-    ∙ ap (λ w. s.members_before l ms (λ u. w) t) (member_settles l m (λ u. write l sign.Period p quiet (k u)) (members_scope l ms t))
-    ∙ sym (members_settles l ms (s.member l m (λ u. write l sign.Period p quiet (k (member_scope l m (members_scope l ms t))))) t)
+    members_settles l ms (s.member l m (λ u. placing (s.member_items m) (write l sign.Period p quiet (k u)))) t
+    ∙ ap (λ w. s.members_before l ms (λ u. w) t) (member_settles l m (λ u. placing (s.member_items m) (write l sign.Period p quiet (k u))) (members_scope l ms t))
+    ∙ sym (members_settles l ms (s.member l m (λ u. placing (s.member_items m) (write l sign.Period p quiet (k (member_scope l m (members_scope l ms t)))))) t)
 
 -- the same for the slots of a block
 abbrev pub local_scope : Limits → g.Local → Scope → Scope
@@ -132,6 +132,6 @@ local_settles l (g.local_constant w e d) k t = refl
 pub locals_settle : (l : Limits) (ws : g.LocalsBefore) (k : s.Listing) (t : Scope) → s.locals_before l ws k t ≡ s.locals_before l ws (λ u. k (locals_scope l ws t)) t
 locals_settle l g.no_locals k t = refl
 locals_settle l (g.more_locals ws w p) k t =
-    locals_settle l ws (s.local l w (λ u. write l sign.Period p quiet (k u))) t
-    ∙ ap (λ y. s.locals_before l ws (λ u. y) t) (local_settles l w (λ u. write l sign.Period p quiet (k u)) (locals_scope l ws t))
-    ∙ sym (locals_settle l ws (s.local l w (λ u. write l sign.Period p quiet (k (local_scope l w (locals_scope l ws t))))) t)
+    locals_settle l ws (s.local l w (λ u. placing (s.local_items w) (write l sign.Period p quiet (k u)))) t
+    ∙ ap (λ y. s.locals_before l ws (λ u. y) t) (local_settles l w (λ u. placing (s.local_items w) (write l sign.Period p quiet (k u))) (locals_scope l ws t))
+    ∙ sym (locals_settle l ws (s.local l w (λ u. placing (s.local_items w) (write l sign.Period p quiet (k (local_scope l w (locals_scope l ws t)))))) t)

@@ -8,20 +8,26 @@ use Rattle.self_grammar.specs.declared.signs.Role.TheVariants.{Equals, Arrow, St
 use Rattle.self_grammar.specs.declared.signs.Symbol.{Symbol}
 use Rattle.self_grammar.specs.declared.signs.Symbol.TheVariants as sign
 use Rattle.self_grammar.specs.declared.signs.ReadKind.TheVariants as kind
+use Rattle.self_grammar.specs.declared.pieces.Item.{Item}
+use Rattle.self_grammar.specs.declared.pieces.Item.TheVariants as items
+use Rattle.self_grammar.specs.Parts.{parts_in}
 use Rattle.self_grammar.specs.Grammar as g
-use Rattle.self_grammar.specs.Counts.{Limits, Context, Event, quiet, opening, closing, here, when}
+use Rattle.self_grammar.specs.Counts.{Limits, Context, Event, quiet, closing, saying, here, when}
 use Rattle.self_grammar.specs.Scopes.{Scope, scope, holder, either, activation, again, too_many_arguments, too_many_locals}
 use Rattle.self_grammar.specs.Spelling as s
 use Rattle.self_grammar.proofs.Settled.{name_scope, keyword_scope, head_inner, slot_scope, slots_scope}
 use Rattle.self_grammar.proofs.Places.{Lists, in_world, in_bars, in_object, Start, listed, lone, Contents, undecided, coded, DataHole, assigned, parental, in_method, in_slotted, statement, alone, world, edit, scope_of, start_scope, named_of}
-use Rattle.self_grammar.proofs.Moves.{Place, at_slot, named, starred, operator_named, operator_argued, keyword_named, keyword_argued, keyword_wanting, holding, data_wanted, opened, data_opened, shut, data_shut, member_done, argument_done, lone_stopped, finished, Move, simply, stay, enter, tell, begin_move, word, label, any}
+use Rattle.self_grammar.proofs.Moves.{Place, at_slot, named, starred, operator_named, operator_argued, keyword_named, keyword_argued, keyword_wanting, holding, data_wanted, opened, data_opened, shut, data_shut, member_done, argument_done, lone_stopped, finished, Move, simply, stay, enter, tell, place, begin_move, word, label, any}
 
 -- what names count and break, in this scope
 abbrev pub name_event : Limits → Scope → g.Label → Event
 name_event l t w = record quiet { counted = w.spot ∷ []; broken = too_many_locals l t ++ again t (w.name ∷ []) w.spot }
 
 abbrev pub argument_event : Limits → Scope → g.Label → Event
-argument_event l t w = record quiet { counted = w.spot ∷ []; broken = too_many_arguments l t.arguments ++ again t (w.name ∷ []) w.spot }
+argument_event l t w = record quiet { says = items.Argument w.name ∷ []; counted = w.spot ∷ []; broken = too_many_arguments l t.arguments ++ again t (w.name ∷ []) w.spot }
+
+abbrev pub head_argument_event : Limits → Scope → g.Label → Event
+head_argument_event l t w = record quiet { says = items.Named w.name ∷ []; counted = w.spot ∷ []; broken = too_many_arguments l t.arguments ++ again t (w.name ∷ []) w.spot }
 
 abbrev pub operator_event : Limits → Scope → g.AnyOperator → Event
 operator_event l t o = record quiet { counted = o.word.spot ∷ []; broken = too_many_locals l t ++ again t (o.word.name ∷ []) o.word.spot }
@@ -56,16 +62,21 @@ after_symbol end = sign.End
 
 -- a slot ends
 abbrev pub done_move : Limits → Lists → g.Slot → (Context → Context) → After → Spot → Option Move
-done_move l (in_world ms) (g.member m) pre period b = Some (record { pre = pre; event = quiet; post = stay; to = at_slot (listed (in_world (g.more_members ms m b))) })
+done_move l (in_world ms) (g.member m) pre period b =
+    Some (record { pre = λ c. place (s.member_items m) (pre c); event = quiet; post = stay; to = at_slot (listed (in_world (g.more_members ms m b))) })
 done_move l (in_world ms) (g.member m) pre bar b = None
-done_move l (in_world ms) (g.member m) pre end b = Some (record { pre = pre; event = quiet; post = stay; to = finished (world (g.world_last ms m b)) })
+done_move l (in_world ms) (g.member m) pre end b =
+    Some (record { pre = λ c. place (s.member_items m) (pre c); event = quiet; post = stay; to = finished (world (g.world_last ms m b)) })
 done_move l (in_world ms) (g.argument w) pre x b = None
-done_move l (in_bars h q d ss) y pre period b = Some (record { pre = pre; event = quiet; post = stay; to = at_slot (listed (in_bars h q d (g.more_slots ss y b))) })
+done_move l (in_bars h q d ss) y pre period b =
+    Some (record { pre = λ c. place (s.slot_items y) (pre c); event = quiet; post = stay; to = at_slot (listed (in_bars h q d (g.more_slots ss y b))) })
 done_move l (in_bars h q d ss) y pre bar b =
-    Some (record { pre = pre; event = record quiet { broken = s.at_bar (named_of l h) (slot_scope l y (scope_of l (in_bars h q d ss))) }; post = stay; to = shut h q d (g.slots_last ss y) b })
+    Some (record { pre = λ c. place (s.slot_items y) (pre c); event = record quiet { broken = s.at_bar (named_of l h) (slot_scope l y (scope_of l (in_bars h q d ss))) }; post = stay; to = shut h q d (g.slots_last ss y) b })
 done_move l (in_bars h q d ss) y pre end b = None
-done_move l (in_object h q d ss) y pre period b = Some (record { pre = pre; event = quiet; post = stay; to = at_slot (listed (in_object h q d (g.more_slots ss y b))) })
-done_move l (in_object h q d ss) y pre bar b = Some (record { pre = pre; event = quiet; post = stay; to = data_shut h q d (g.slots_last ss y) b })
+done_move l (in_object h q d ss) y pre period b =
+    Some (record { pre = λ c. place (s.slot_items y) (pre c); event = quiet; post = stay; to = at_slot (listed (in_object h q d (g.more_slots ss y b))) })
+done_move l (in_object h q d ss) y pre bar b =
+    Some (record { pre = λ c. place (s.slot_items y) (pre c); event = quiet; post = stay; to = data_shut h q d (g.slots_last ss y) b })
 done_move l (in_object h q d ss) y pre end b = None
 
 -- a list ends behind a period, or is empty
@@ -132,7 +143,7 @@ starred_move h w x (sign.Operator n r) b = at_equals r (simply quiet (data_wante
 starred_move h w x _ b = None
 
 abbrev pub operator_named_move : Limits → Start → g.AnyOperator → Symbol → Spot → Option Move
-operator_named_move l h o (sign.Name n t r) b = if_free r (simply (argument_event l (scope activation) (label n t b)) (operator_argued h o (label n t b)))
+operator_named_move l h o (sign.Name n t r) b = if_free r (simply (head_argument_event l (scope activation) (label n t b)) (operator_argued h o (label n t b)))
 operator_named_move l h o (sign.Operator n r) b = at_equals r (simply quiet (holding (coded h (g.operator o) (word n b))))
 operator_named_move l h o _ b = None
 
@@ -141,12 +152,12 @@ operator_argued_move h o a (sign.Operator n r) b = at_equals r (simply quiet (ho
 operator_argued_move h o a _ b = None
 
 abbrev pub first_argument : Limits → Start → g.KeywordName → g.Label → Option Move
-first_argument l h (g.keyword_first w) a = simply (argument_event l (scope activation) a) (keyword_argued h (g.head_first w a))
+first_argument l h (g.keyword_first w) a = simply (head_argument_event l (scope activation) a) (keyword_argued h (g.head_first w a))
 first_argument l h (g.keyword_next n q) a = None
 
 -- what is broken at the '=' of a keyword slot
 abbrev pub keyword_broken : Limits → Start → g.KeywordName → Event
-keyword_broken l h n = record quiet { broken = again (keyword_scope l n (start_scope l h)) (s.words n) (s.first_word n) }
+keyword_broken l h n = record quiet { broken = again (keyword_scope l n (start_scope l h)) (parts_in (s.words n)) (s.first_word n) }
 
 abbrev pub keyword_named_move : Limits → Start → g.KeywordName → Symbol → Spot → Option Move
 keyword_named_move l h n (sign.Name m t r) b = if_free r (first_argument l h n (label m t b))
@@ -160,19 +171,19 @@ keyword_argued_move l h n (sign.Operator m r) b = at_equals r (simply (keyword_b
 keyword_argued_move l h n _ b = None
 
 abbrev pub keyword_wanting_move : Limits → Start → g.KeywordHead → g.Part → Symbol → Spot → Option Move
-keyword_wanting_move l h n q (sign.Name m t r) b = if_free r (simply (argument_event l (head_inner n) (label m t b)) (keyword_argued h (g.head_next n q (label m t b))))
+keyword_wanting_move l h n q (sign.Name m t r) b = if_free r (simply (head_argument_event l (head_inner n) (label m t b)) (keyword_argued h (g.head_next n q (label m t b))))
 keyword_wanting_move l h n q _ b = None
 
 -- where contents are wanted
-abbrev pub simple_move : Contents → g.Simple → Option Move
-simple_move (undecided h w e) d = simply quiet (member_done h (g.constant w e (g.simple d)))
-simple_move (coded h x e) d = None
+abbrev pub simple_move : Contents → g.Simple → Item → Option Move
+simple_move (undecided h w e) d i = simply (saying i) (member_done h (g.constant w e (g.simple d)))
+simple_move (coded h x e) d i = None
 
 abbrev pub holding_move : Limits → Contents → Symbol → Spot → Option Move
-holding_move l h (sign.Integer z) b = simple_move h (g.integer z b)
-holding_move l h (sign.Text i j) b = simple_move h (g.string (record { start = i; end = j; spot = b }))
-holding_move l h (sign.Name n t r) b = simple_move h (g.path (g.named (any n t r b)))
-holding_move l h sign.OpenParen b = simply (record opening { next = s.wants_bar (named_of l h) }) (opened h b)
+holding_move l h (sign.Integer z) b = simple_move h (g.integer z b) (items.Integer z)
+holding_move l h (sign.Text i j) b = simple_move h (g.string (record { start = i; end = j; spot = b })) (items.Text i j)
+holding_move l h (sign.Name n t r) b = simple_move h (g.path (g.named (any n t r b))) (items.Root n b)
+holding_move l h sign.OpenParen b = simply (record (s.opening_item b) { next = s.wants_bar (named_of l h) }) (opened h b)
 holding_move l h _ b = None
 
 -- the place behind what is no method
@@ -181,10 +192,10 @@ datum_done (assigned h w a) d = member_done h (g.assignable w a d)
 datum_done (parental h w x e) d = member_done h (g.parent w x e d)
 
 abbrev pub data_wanted_move : DataHole → Symbol → Spot → Option Move
-data_wanted_move h (sign.Integer z) b = simply quiet (datum_done h (g.simple (g.integer z b)))
-data_wanted_move h (sign.Text i j) b = simply quiet (datum_done h (g.simple (g.string (record { start = i; end = j; spot = b }))))
-data_wanted_move h (sign.Name n t r) b = simply quiet (datum_done h (g.simple (g.path (g.named (any n t r b)))))
-data_wanted_move h sign.OpenParen b = simply opening (data_opened h b)
+data_wanted_move h (sign.Integer z) b = simply (saying (items.Integer z)) (datum_done h (g.simple (g.integer z b)))
+data_wanted_move h (sign.Text i j) b = simply (saying (items.Text i j)) (datum_done h (g.simple (g.string (record { start = i; end = j; spot = b }))))
+data_wanted_move h (sign.Name n t r) b = simply (saying (items.Root n b)) (datum_done h (g.simple (g.path (g.named (any n t r b)))))
+data_wanted_move h sign.OpenParen b = simply (s.opening_item b) (data_opened h b)
 data_wanted_move h _ b = None
 
 -- behind a parenthesis
@@ -192,8 +203,11 @@ abbrev pub behind_pre : (Context → Context) → Option Move → Option Move
 behind_pre f None = None
 behind_pre f (Some m) = Some (record m { pre = λ c. m.pre (f c) })
 
+abbrev pub empty_object_end : Spot → Event
+empty_object_end q = record closing { says = items.ClosedObject ∷ []; counted = q ∷ [] }
+
 abbrev pub empty_object_move : Contents → Spot → Spot → Option Move
-empty_object_move (undecided h w e) q b = simply (record closing { counted = q ∷ [] }) (member_done h (g.constant w e (g.object (g.empty_object q b))))
+empty_object_move (undecided h w e) q b = simply (empty_object_end q) (member_done h (g.constant w e (g.object (g.empty_object q b))))
 empty_object_move (coded h x e) q b = None
 
 abbrev pub code_begins : Contents → Spot → Symbol → Spot → Option Move
@@ -206,12 +220,12 @@ opened_move h q x b = code_begins h q x b
 
 abbrev pub data_opened_move : DataHole → Spot → Symbol → Spot → Option Move
 data_opened_move h q sign.Bar b = simply quiet (at_slot (listed (in_object h q b g.no_slots)))
-data_opened_move h q sign.CloseParen b = simply (record closing { counted = q ∷ [] }) (datum_done h (g.object (g.empty_object q b)))
+data_opened_move h q sign.CloseParen b = simply (empty_object_end q) (datum_done h (g.object (g.empty_object q b)))
 data_opened_move h q _ b = None
 
 -- behind the bars
 abbrev pub object_end : Spot → Scope → Event
-object_end q t = record closing { counted = q ∷ []; broken = when (not (t.arguments == 0)) (here kind.BadSyntax) }
+object_end q t = record closing { says = items.ClosedObject ∷ []; counted = q ∷ []; broken = when (not (t.arguments == 0)) (here kind.BadSyntax) }
 
 abbrev pub object_move : Limits → Contents → Spot → Spot → g.Slots → Spot → Spot → Option Move
 object_move l (undecided h w e) q d sl d2 b = simply (object_end q (slots_scope l sl (scope either))) (member_done h (g.constant w e (g.object (g.slotted_object q d sl d2 b))))
@@ -235,15 +249,15 @@ longer_datum (g.simple (g.integer z p)) w = None
 longer_datum (g.simple (g.string t)) w = None
 longer_datum (g.simple (g.path q)) w = Some (g.simple (g.path (g.under q w)))
 
-abbrev pub longer : (g.Datum → g.Member) → Lists → Option g.Datum → Option Move
-longer f h None = None
-longer f h (Some d) = simply quiet (member_done h (f d))
+abbrev pub longer : (g.Datum → g.Member) → Lists → g.AnyName → Option g.Datum → Option Move
+longer f h w None = None
+longer f h w (Some d) = simply (saying (items.Further w.label.name w.label.spot)) (member_done h (f d))
 
 abbrev pub path_move : Lists → g.Member → g.AnyName → Option Move
-path_move h (g.constant w e d) y = longer (g.constant w e) h (longer_datum d y)
-path_move h (g.assignable w a d) y = longer (g.assignable w a) h (longer_datum d y)
+path_move h (g.constant w e d) y = longer (g.constant w e) h y (longer_datum d y)
+path_move h (g.assignable w a d) y = longer (g.assignable w a) h y (longer_datum d y)
 path_move h (g.bare w) y = None
-path_move h (g.parent w x e d) y = longer (g.parent w x e) h (longer_datum d y)
+path_move h (g.parent w x e d) y = longer (g.parent w x e) h y (longer_datum d y)
 path_move h (g.coded m) y = None
 
 abbrev pub member_done_move : Limits → Lists → g.Member → Symbol → Spot → Option Move
@@ -263,9 +277,11 @@ argument_done_move l h w _ b = None
 abbrev pub method_done : Limits → Contents → g.Method → After → Spot → Option Move
 method_done l (undecided h w e) m x b = done_move l h (g.member (g.coded (g.method (g.unary_head w) e m))) stay x b
 method_done l (coded (listed h) y e) m x b = done_move l h (g.member (g.coded (g.method y e m))) stay x b
-method_done l (coded lone y e) m period b = simply quiet (lone_stopped y e m b)
+method_done l (coded lone y e) m period b =
+    Some (record { pre = place (s.method_items (g.method y e m)); event = quiet; post = stay; to = lone_stopped y e m b })
 method_done l (coded lone y e) m bar b = None
-method_done l (coded lone y e) m end b = simply quiet (finished (edit (g.edit (g.method y e m) None b)))
+method_done l (coded lone y e) m end b =
+    Some (record { pre = place (s.method_items (g.method y e m)); event = quiet; post = stay; to = finished (edit (g.edit (g.method y e m) None b)) })
 
 abbrev pub behind_move : Limits → Contents → g.Method → Symbol → Spot → Option Move
 behind_move l h m sign.Period b = method_done l h m period b

@@ -82,7 +82,8 @@ argument l w k s =
 -- an argument in the name of a slot
 abbrev pub head_argument : Limits → g.Label → Listing → Listing
 head_argument l w k s =
-    write l (free_name w) w.spot (record quiet { counted = w.spot ∷ []; broken = too_many_arguments l s.arguments ++ again s (w.name ∷ []) w.spot })
+    write l (free_name w) w.spot
+    (record quiet { says = items.Named w.name ∷ []; counted = w.spot ∷ []; broken = too_many_arguments l s.arguments ++ again s (w.name ∷ []) w.spot })
     (k (with_argument (w.name ∷ []) s))
 
 -- An assignable slot has the name of its assignment slot too. This is known at its '<-', or without one at the next sign.
