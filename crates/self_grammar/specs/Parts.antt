@@ -25,3 +25,11 @@ but_last (words.Two a b) = words.One a
 but_last (words.Three a b c) = words.Two a b
 but_last (words.Four a b c d) = words.Three a b c
 but_last (words.Five a b c d e) = words.Four a b c d
+
+-- how many parts there are
+abbrev pub count_of : Words → ℕ
+count_of (words.One a) = 1
+count_of (words.Two a b) = 2
+count_of (words.Three a b c) = 3
+count_of (words.Four a b c d) = 4
+count_of (words.Five a b c d e) = 5

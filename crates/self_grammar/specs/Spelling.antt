@@ -1,6 +1,6 @@
 -- How a text is spelled: the signs of each part, with the nodes that they make and what is counted and broken at each.
 -- Nodes are made at their sign; those of binary and keyword messages, of returns and of ended statements at the first sign after.
-use Rattle.std.specs.Prelude.{ℕ, ◌+◌, ◌-◌, Bool, true, false, not, ◌==◌, if◌then◌else◌, Option, None, Some, List, [], ◌∷◌, ◌++◌}
+use Rattle.std.specs.Prelude.{ℕ, ◌-◌, Bool, true, false, not, ◌==◌, if◌then◌else◌, Option, None, Some, List, [], ◌∷◌, ◌++◌}
 use Rattle.self_grammar.specs.declared.signs.Spot.{Spot}
 use Rattle.self_grammar.specs.declared.signs.Reserved.TheVariants.{Free, Itself, Resend}
 use Rattle.self_grammar.specs.declared.signs.Role.{Role}
@@ -19,7 +19,7 @@ use Rattle.self_grammar.specs.declared.pieces.SlotForm.TheVariants as form
 use Rattle.self_grammar.specs.declared.pieces.Made.{Made}
 use Rattle.self_grammar.specs.declared.pieces.Item.{Item}
 use Rattle.self_grammar.specs.declared.pieces.Item.TheVariants as items
-use Rattle.self_grammar.specs.Parts.{parts_in, followed_by, but_last}
+use Rattle.self_grammar.specs.Parts.{parts_in, followed_by, but_last, count_of}
 use Rattle.self_grammar.specs.Grammar as g
 use Rattle.self_grammar.specs.Counts.{Limits, node, Breach, here, there, when, Context, Event, quiet, opening, makes, saying, Mark, Writer, write, owing, telling, placing, entering, finishing, closing}
 use Rattle.self_grammar.specs.Scopes.{Owner, holder, either, activation, Scope, scope, named, with_argument, with_local, not_plain, again, too_many_arguments, too_many_locals, late_locals}
@@ -146,11 +146,6 @@ operator_node o (g.first u p) = node p (nodes.Message Given (One o) 1)
 operator_node o (g.delegated d p) = node (delegate_spot d) (nodes.Message (delegate_target d) (One o) 1)
 operator_node o (g.next us u p) = node p (nodes.Message Given (One o) 1)
 
-abbrev pub parts : g.Message → ℕ
-parts (g.opened r o) = 1
-parts (g.redirected d w) = 1
-parts (g.further m b q) = parts m + 1
-
 abbrev pub message_spot : g.Message → Spot
 message_spot (g.opened r o) = opening_spot o
 message_spot (g.redirected d w) = delegate_spot d
@@ -165,6 +160,9 @@ abbrev pub message_words : g.Message → Words
 message_words (g.opened r o) = One (opening_name o)
 message_words (g.redirected d w) = One w.name
 message_words (g.further m b q) = followed_by (message_words m) q.word.name
+
+abbrev pub parts : g.Message → ℕ
+parts m = count_of (message_words m)
 
 abbrev pub receiver_target : g.Receiver → Target
 receiver_target g.implied = Implied
@@ -298,8 +296,7 @@ words (g.keyword_first w) = One w.name
 words (g.keyword_next n q) = followed_by (words n) q.word.name
 
 abbrev pub count : g.KeywordName → ℕ
-count (g.keyword_first w) = 1
-count (g.keyword_next n q) = count n + 1
+count n = count_of (words n)
 
 abbrev pub head_name : g.KeywordHead → g.KeywordName
 head_name (g.head_first w a) = g.keyword_first w

@@ -1,6 +1,6 @@
 // What a text says, piece by piece, in the order in which it is read.
-ghost use Rattle.std.specs.Prelude.{◌≡◌, length};
-ghost use Rattle.self_grammar.specs.Parts.{parts_in, followed_by};
+ghost use Rattle.std.specs.Prelude.{◌≡◌};
+ghost use Rattle.self_grammar.specs.Parts.{count_of, followed_by};
 
 use crate::signs::{ReadKind, Spot};
 
@@ -30,7 +30,7 @@ impl Words {
 
     /// How many parts there are.
     pub fn count(self) -> usize
-        ensures { result ≡ length (parts_in self) }
+        ensures { result ≡ count_of self }
     {
         match self {
             Words::One(_) => 1,
@@ -169,15 +169,15 @@ pub struct Held {
 #[derive(Clone, Copy, Debug, PartialEq, Eq)]
 pub struct Limits {
     /// Open parentheses, brackets and keyword messages, one inside the other.
-    pub nesting: usize,
+    pub nesting: u32,
     /// Pending values of a body.
-    pub pending: usize,
+    pub pending: u32,
     /// Arguments of a body, and keyword parts of a message.
-    pub arguments: usize,
+    pub arguments: u32,
     /// Locals of a body, without its arguments.
-    pub locals: usize,
+    pub locals: u32,
     /// Nodes of a body.
-    pub body: usize,
+    pub body: u32,
     /// Slots, arguments and locals among them, objects and nodes of all.
-    pub size: usize,
+    pub size: u32,
 }
