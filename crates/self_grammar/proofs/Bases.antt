@@ -8,6 +8,7 @@ use Rattle.self_grammar.specs.declared.signs.Role.{Role}
 use Rattle.self_grammar.specs.declared.signs.Role.TheVariants.{Equals, Arrow, Star, Other}
 use Rattle.self_grammar.specs.declared.signs.Symbol.{Symbol}
 use Rattle.self_grammar.specs.declared.signs.Symbol.TheVariants as sign
+use Rattle.self_grammar.specs.declared.pieces.Item.{Item}
 use Rattle.self_grammar.specs.Grammar as g
 use Rattle.self_grammar.specs.Counts.{Limits, Context, Event, quiet}
 use Rattle.self_grammar.specs.Scopes.{scope, activation}
@@ -364,9 +365,9 @@ first_argument_keeps : (l : Limits) (h : Start) (n : g.KeywordName) (a : g.Label
 first_argument_keeps l h (g.keyword_first i) a m is = kept _ m _ is refl
 first_argument_keeps l h (g.keyword_next n q) a m is = cc
 
-simple_keeps : (h : Contents) (d : g.Simple) (m : Moves.Move) → v.simple_move h d ≡ Some m → base m.to ≡ contents_base h
-simple_keeps (undecided h n e) d m is = kept _ m _ is refl
-simple_keeps (coded h y e) d m is = cc
+simple_keeps : (h : Contents) (d : g.Simple) (i : Item) (m : Moves.Move) → v.simple_move h d i ≡ Some m → base m.to ≡ contents_base h
+simple_keeps (undecided h n e) d i m is = kept _ m _ is refl
+simple_keeps (coded h y e) d i m is = cc
 
 datum_base : (h : DataHole) (d : g.Datum) → base (v.datum_done h d) ≡ data_base h
 datum_base (assigned h n a) d = refl
@@ -465,7 +466,7 @@ starred_keeps l h w' y' (sign.Bad z) b m is = cc
 operator_named_keeps : (l : Limits) (h : Start) (o : g.AnyOperator) (x : Symbol) (b : Spot) (m : Moves.Move) → v.operator_named_move l h o x b ≡ Some m → base m.to ≡ base (Moves.operator_named h o)
 operator_named_keeps l h o (sign.Integer z) b m is = cc
 operator_named_keeps l h o (sign.Text i j) b m is = cc
-operator_named_keeps l h o (sign.Name n t r) b m is = free_keeps r (Moves.simply (v.argument_event l (scope activation) (Moves.label n t b)) (Moves.operator_argued h o (Moves.label n t b))) m _ is (λ e. kept _ m _ e refl)
+operator_named_keeps l h o (sign.Name n t r) b m is = free_keeps r (Moves.simply (v.head_argument_event l (scope activation) (Moves.label n t b)) (Moves.operator_argued h o (Moves.label n t b))) m _ is (λ e. kept _ m _ e refl)
 operator_named_keeps l h o (sign.Primitive n) b m is = cc
 operator_named_keeps l h o sign.Restart b m is = cc
 operator_named_keeps l h o (sign.Keyword n) b m is = cc
@@ -557,7 +558,7 @@ keyword_argued_keeps l h kh (sign.Bad z) b m is = cc
 keyword_wanting_keeps : (l : Limits) (h : Start) (kh : g.KeywordHead) (q : g.Part) (x : Symbol) (b : Spot) (m : Moves.Move) → v.keyword_wanting_move l h kh q x b ≡ Some m → base m.to ≡ base (Moves.keyword_wanting h kh q)
 keyword_wanting_keeps l h kh q (sign.Integer z) b m is = cc
 keyword_wanting_keeps l h kh q (sign.Text i j) b m is = cc
-keyword_wanting_keeps l h kh q (sign.Name n t r) b m is = free_keeps r (Moves.simply (v.argument_event l (head_inner kh) (Moves.label n t b)) (Moves.keyword_argued h (g.head_next kh q (Moves.label n t b)))) m _ is (λ e. kept _ m _ e refl)
+keyword_wanting_keeps l h kh q (sign.Name n t r) b m is = free_keeps r (Moves.simply (v.head_argument_event l (head_inner kh) (Moves.label n t b)) (Moves.keyword_argued h (g.head_next kh q (Moves.label n t b)))) m _ is (λ e. kept _ m _ e refl)
 keyword_wanting_keeps l h kh q (sign.Primitive n) b m is = cc
 keyword_wanting_keeps l h kh q sign.Restart b m is = cc
 keyword_wanting_keeps l h kh q (sign.Keyword n) b m is = cc
@@ -578,9 +579,9 @@ keyword_wanting_keeps l h kh q sign.End b m is = cc
 keyword_wanting_keeps l h kh q (sign.Bad z) b m is = cc
 
 holding_keeps : (l : Limits) (h : Contents) (x : Symbol) (b : Spot) (m : Moves.Move) → v.holding_move l h x b ≡ Some m → base m.to ≡ base (Moves.holding h)
-holding_keeps l h (sign.Integer z) b m is = simple_keeps h _ m is
-holding_keeps l h (sign.Text i j) b m is = simple_keeps h _ m is
-holding_keeps l h (sign.Name n t r) b m is = simple_keeps h _ m is
+holding_keeps l h (sign.Integer z) b m is = simple_keeps h _ _ m is
+holding_keeps l h (sign.Text i j) b m is = simple_keeps h _ _ m is
+holding_keeps l h (sign.Name n t r) b m is = simple_keeps h _ _ m is
 holding_keeps l h (sign.Primitive n) b m is = cc
 holding_keeps l h sign.Restart b m is = cc
 holding_keeps l h (sign.Keyword n) b m is = cc
@@ -880,8 +881,8 @@ local_named_keeps l h q d ws w' sign.OpenParen b m is = cc
 local_named_keeps l h q d ws w' sign.CloseParen b m is = cc
 local_named_keeps l h q d ws w' sign.OpenBracket b m is = cc
 local_named_keeps l h q d ws w' sign.CloseBracket b m is = cc
-local_named_keeps l h q d ws w' sign.Bar b m is = local_end_keeps h q d ws _ _ w.bar b m is
-local_named_keeps l h q d ws w' sign.Period b m is = local_end_keeps h q d ws _ _ w.period b m is
+local_named_keeps l h q d ws w' sign.Bar b m is = local_end_keeps h q d ws (g.local_bare w') (w.bare_pre l ws w') w.bar b m is
+local_named_keeps l h q d ws w' sign.Period b m is = local_end_keeps h q d ws (g.local_bare w') (w.bare_pre l ws w') w.period b m is
 local_named_keeps l h q d ws w' sign.Caret b m is = cc
 local_named_keeps l h q d ws w' sign.End b m is = cc
 local_named_keeps l h q d ws w' (sign.Bad z) b m is = cc

@@ -8,8 +8,9 @@ use Rattle.self_grammar.specs.declared.signs.Symbol.{Symbol}
 use Rattle.self_grammar.specs.declared.signs.Symbol.TheVariants as sign
 use Rattle.self_grammar.specs.declared.signs.Sign.{Sign}
 use Rattle.self_grammar.specs.Grammar as g
-use Rattle.self_grammar.specs.Counts.{Limits, Writer, write}
+use Rattle.self_grammar.specs.Counts.{Limits, Writer, write, placing}
 use Rattle.self_grammar.specs.Refusal.{BeginsSoundly}
+use Rattle.self_grammar.specs.Spelling as s
 use Rattle.self_grammar.proofs.Settled.{member_scope, member_settles}
 use Rattle.self_grammar.proofs.Places.{Lists, in_world, in_bars, in_object, Start, listed, lone, Contents, undecided, coded, DataHole, assigned, parental, CodeHole, in_method, in_slotted, in_block, OperandHole, alone, Text, marks, o, scope_of}
 use Rattle.self_grammar.proofs.Places as p
@@ -56,8 +57,8 @@ behind_closes l h f = record { text = p.method_closing h f; rest = contents_rest
 member_closes : (l : Limits) (h : Lists) (f : g.Member) → Closes l (Moves.member_done h f)
 member_closes l h f = record {
   text = p.member_closing h f;
-  rest = list_rest l h (member_scope l f (scope_of l h));
-  law = ap (λ (w : Writer). p.lists l h w) (sym (member_settles l f (list_rest l h) (scope_of l h))) ∙ member_law l h f;
+  rest = placing (s.member_items f) (list_rest l h (member_scope l f (scope_of l h)));
+  law = ap (λ (w : Writer). p.lists l h w) (sym (member_settles l f (λ t. placing (s.member_items f) (list_rest l h t)) (scope_of l h))) ∙ member_law l h f;
   kind = member_kind h f;
 }
 

@@ -1,5 +1,5 @@
 -- Whatever code the grammar spells is followed, sign by sign, with the marks that it has.
-use Rattle.std.specs.Prelude.{◌≡◌, ℕ, ◌==◌, true, None, Some, List, [], ◌∷◌, refl}
+use Rattle.std.specs.Prelude.{◌≡◌, ℕ, ◌==◌, true, false, None, Some, List, [], ◌∷◌, refl}
 use Rattle.std.proofs.Common.{ap, sym, subst, arith}
 use Rattle.std.proofs.lemmas.Grind.{common_steps}
 use Rattle.self_grammar.specs.declared.signs.Spot.{Spot}
@@ -7,8 +7,11 @@ use Rattle.self_grammar.specs.declared.signs.Role.{Role}
 use Rattle.self_grammar.specs.declared.signs.Role.TheVariants.{Equals, Arrow, Star, Other}
 use Rattle.self_grammar.specs.declared.signs.Symbol.{Symbol}
 use Rattle.self_grammar.specs.declared.signs.Symbol.TheVariants as sign
+use Rattle.self_grammar.specs.declared.pieces.Words.TheVariants.{One}
+use Rattle.self_grammar.specs.declared.pieces.TextNode.TheVariants as nodes
+use Rattle.self_grammar.specs.declared.pieces.Item.TheVariants as items
 use Rattle.self_grammar.specs.Grammar as g
-use Rattle.self_grammar.specs.Counts.{Limits, Mark, Context, Event, Writer, write, mark_at, moved, quiet, opening, closing, node, owing, entering}
+use Rattle.self_grammar.specs.Counts.{Limits, Mark, Context, Event, Writer, write, mark_at, moved, quiet, opening, closing, saying, placing, node, owing, entering}
 use Rattle.self_grammar.specs.Scopes.{scope, activation, too_many_arguments}
 use Rattle.self_grammar.specs.Counts
 use Rattle.self_grammar.specs.Spelling as s
@@ -64,7 +67,7 @@ role_self Star = refl
 role_self Other = refl
 
 operator_again : (h : Hole) (n : ℕ) (r : Role) (us : g.Operands) (u : g.Unary) (b : Spot) →
-    Moves.operator_move (right h n r us) u n r b ≡ Some (record { pre = Moves.owe (s.operator_node us); event = quiet; post = Moves.stay; to = Moves.wanting (right h n r (g.next us u b)) })
+    Moves.operator_move (right h n r us) u n r b ≡ Some (record { pre = Moves.owe (s.operator_node n us); event = quiet; post = Moves.stay; to = Moves.wanting (right h n r (g.next us u b)) })
 operator_again h n r us u b = rw (equal_self n, role_self r) refl
 
 -- the last operand of a binary
@@ -81,7 +84,7 @@ delegate_reads l t (g.to_all w) h k f = reads l t (Moves.wanting h) _ _ _ k refl
 delegate_reads l t (g.to_parent w) h k f = reads l t (Moves.wanting h) _ _ _ k refl f
 
 period_ends : (l : Limits) (t : Text) (h : CodeHole) (ss : g.Statements) (e : g.Expression) (b : Spot) (k : Writer) → Reads l t (Moves.wanting (alone (statement h (g.more ss e b)))) k →
-    Ends l t (Moves.at_statement h ss e) (write l sign.Period b quiet (owing (node b 1 0) k))
+    Ends l t (Moves.at_statement h ss e) (write l sign.Period b quiet (owing (node b nodes.Drop) k))
 period_ends l t h ss e b k f i u same c = (
   _,
   stop_is l i u (Moves.at_statement h ss e) Moves.period b same,
@@ -122,42 +125,42 @@ group_ends l t h q e b k f i u same c = (_, stop_is l i u (Moves.at_group h q e)
 path_reads : (l : Limits) (t : Text) (h : OperandHole) (q d : Spot) (ws : g.LocalsBefore) (y : g.Path) (w : g.Label) (e : g.Word) (k : Writer) →
     Reads l t (Moves.local_done h q d ws (g.local_constant w e (g.path y))) k → Reads l t (Moves.local_equals h q d ws w e) (s.path l y k)
 path_reads l t h q d ws (g.named n) w e k f = λ c. (_, refl, refl, f _)
-path_reads l t h q d ws (g.under y n) w e k f = path_reads l t h q d ws y w e (write l (s.any_name n) n.label.spot quiet k) (λ c. (_, refl, refl, f _))
+path_reads l t h q d ws (g.under y n) w e k f = path_reads l t h q d ws y w e (write l (s.any_name n) n.label.spot (saying (items.Further n.label.name n.label.spot)) k) (λ c. (_, refl, refl, f _))
 
 arrow_path_reads : (l : Limits) (t : Text) (h : OperandHole) (q d : Spot) (ws : g.LocalsBefore) (y : g.Path) (w : g.Label) (e : g.Word) (k : Writer) →
     Reads l t (Moves.local_done h q d ws (g.local_assignable w e (g.path y))) k → Reads l t (Moves.local_arrow h q d ws w e) (s.path l y k)
 arrow_path_reads l t h q d ws (g.named n) w e k f = λ c. (_, refl, refl, f _)
-arrow_path_reads l t h q d ws (g.under y n) w e k f = arrow_path_reads l t h q d ws y w e (write l (s.any_name n) n.label.spot quiet k) (λ c. (_, refl, refl, f _))
+arrow_path_reads l t h q d ws (g.under y n) w e k f = arrow_path_reads l t h q d ws y w e (write l (s.any_name n) n.label.spot (saying (items.Further n.label.name n.label.spot)) k) (λ c. (_, refl, refl, f _))
 
 abbrev pub done_to : OperandHole → Spot → Spot → g.LocalsBefore → g.Local → w.After → Spot → Moves.Place
 done_to h q d ws x w.period b = Moves.at_local h q d (g.more_locals ws x b)
 done_to h q d ws x w.bar b = Moves.wanting (alone (statement (in_block h q (g.present d (g.locals_last ws x) b)) g.none))
 
 local_then : (l : Limits) (t : Text) (h : OperandHole) (q d : Spot) (ws : g.LocalsBefore) (y : g.Local) (x : w.After) (b : Spot) (k : Writer) → Reads l t (done_to h q d ws y x b) k →
-    Reads l t (Moves.at_local h q d ws) (s.local l y (λ u. write l (w.after_symbol x) b quiet k) (Moves.block_scope l ws))
+    Reads l t (Moves.at_local h q d ws) (s.local l y (λ u. placing (s.local_items y) (write l (w.after_symbol x) b quiet k)) (Moves.block_scope l ws))
 local_then l t h q d ws (g.local_argument n) w.period b k f = λ c. (_, refl, refl, (_, refl, refl, f _))
 local_then l t h q d ws (g.local_bare n) w.period b k f = λ c. (_, refl, refl, (_, refl, refl, f _))
 local_then l t h q d ws (g.local_constant n e (g.integer z i)) w.period b k f = λ c. (_, refl, refl, (_, refl, refl, (_, refl, refl, (_, refl, refl, f _))))
 local_then l t h q d ws (g.local_constant n e (g.string z)) w.period b k f = λ c. (_, refl, refl, (_, refl, refl, (_, refl, refl, (_, refl, refl, f _))))
-local_then l t h q d ws (g.local_constant n e (g.path y)) w.period b k f = λ c. (_, refl, refl, (_, refl, refl, path_reads l t h q d ws y n e (write l sign.Period b quiet k) (λ i. (_, refl, refl, f _)) _))
+local_then l t h q d ws (g.local_constant n e (g.path y)) w.period b k f = λ c. (_, refl, refl, (_, refl, refl, path_reads l t h q d ws y n e (placing (s.local_items (g.local_constant n e (g.path y))) (write l sign.Period b quiet k)) (λ i. (_, refl, refl, f _)) _))
 local_then l t h q d ws (g.local_assignable n e (g.integer z i)) w.period b k f = λ c. (_, refl, refl, (_, refl, refl, (_, refl, refl, (_, refl, refl, f _))))
 local_then l t h q d ws (g.local_assignable n e (g.string z)) w.period b k f = λ c. (_, refl, refl, (_, refl, refl, (_, refl, refl, (_, refl, refl, f _))))
-local_then l t h q d ws (g.local_assignable n e (g.path y)) w.period b k f = λ c. (_, refl, refl, (_, refl, refl, arrow_path_reads l t h q d ws y n e (write l sign.Period b quiet k) (λ i. (_, refl, refl, f _)) _))
+local_then l t h q d ws (g.local_assignable n e (g.path y)) w.period b k f = λ c. (_, refl, refl, (_, refl, refl, arrow_path_reads l t h q d ws y n e (placing (s.local_items (g.local_assignable n e (g.path y))) (write l sign.Period b quiet k)) (λ i. (_, refl, refl, f _)) _))
 local_then l t h q d ws (g.local_argument n) w.bar b k f = λ c. (_, refl, refl, (_, refl, refl, f _))
 local_then l t h q d ws (g.local_bare n) w.bar b k f = λ c. (_, refl, refl, (_, refl, refl, f _))
 local_then l t h q d ws (g.local_constant n e (g.integer z i)) w.bar b k f = λ c. (_, refl, refl, (_, refl, refl, (_, refl, refl, (_, refl, refl, f _))))
 local_then l t h q d ws (g.local_constant n e (g.string z)) w.bar b k f = λ c. (_, refl, refl, (_, refl, refl, (_, refl, refl, (_, refl, refl, f _))))
-local_then l t h q d ws (g.local_constant n e (g.path y)) w.bar b k f = λ c. (_, refl, refl, (_, refl, refl, path_reads l t h q d ws y n e (write l sign.Bar b quiet k) (λ i. (_, refl, refl, f _)) _))
+local_then l t h q d ws (g.local_constant n e (g.path y)) w.bar b k f = λ c. (_, refl, refl, (_, refl, refl, path_reads l t h q d ws y n e (placing (s.local_items (g.local_constant n e (g.path y))) (write l sign.Bar b quiet k)) (λ i. (_, refl, refl, f _)) _))
 local_then l t h q d ws (g.local_assignable n e (g.integer z i)) w.bar b k f = λ c. (_, refl, refl, (_, refl, refl, (_, refl, refl, (_, refl, refl, f _))))
 local_then l t h q d ws (g.local_assignable n e (g.string z)) w.bar b k f = λ c. (_, refl, refl, (_, refl, refl, (_, refl, refl, (_, refl, refl, f _))))
-local_then l t h q d ws (g.local_assignable n e (g.path y)) w.bar b k f = λ c. (_, refl, refl, (_, refl, refl, arrow_path_reads l t h q d ws y n e (write l sign.Bar b quiet k) (λ i. (_, refl, refl, f _)) _))
+local_then l t h q d ws (g.local_assignable n e (g.path y)) w.bar b k f = λ c. (_, refl, refl, (_, refl, refl, arrow_path_reads l t h q d ws y n e (placing (s.local_items (g.local_assignable n e (g.path y))) (write l sign.Bar b quiet k)) (λ i. (_, refl, refl, f _)) _))
 
 locals_reads : (l : Limits) (t : Text) (h : OperandHole) (q d : Spot) (ws : g.LocalsBefore) (k : s.Listing) → Reads l t (Moves.at_local h q d ws) (k (Moves.block_scope l ws)) →
     Reads l t (Moves.at_local h q d g.no_locals) (s.locals_before l ws k (scope activation))
 locals_reads l t h q d g.no_locals k f = f
 locals_reads l t h q d (g.more_locals ws y p) k f =
-    locals_reads l t h q d ws (s.local l y (λ u. write l sign.Period p quiet (k u)))
-    (subst (λ z. Reads l t (Moves.at_local h q d ws) z) (sym (local_settles l y (λ u. write l sign.Period p quiet (k u)) (Moves.block_scope l ws)))
+    locals_reads l t h q d ws (s.local l y (λ u. placing (s.local_items y) (write l sign.Period p quiet (k u))))
+    (subst (λ z. Reads l t (Moves.at_local h q d ws) z) (sym (local_settles l y (λ u. placing (s.local_items y) (write l sign.Period p quiet (k u))) (Moves.block_scope l ws)))
     (local_then l t h q d ws y w.period p (k (Moves.block_scope l (g.more_locals ws y p))) f))
 
 bars_reads : (l : Limits) (t : Text) (h : OperandHole) (q : Spot) (bs : g.Bars) (k : Writer) → Reads l t (Moves.wanting (alone (statement (in_block h q bs) g.none))) k →
@@ -166,7 +169,7 @@ bars_reads l t h q g.absent k f = f
 bars_reads l t h q (g.present d (g.locals_ended ws) b) k f =
     λ c. (_, refl, refl, locals_reads l t h q d ws (λ u. write l sign.Bar b quiet k) (λ i. (_, refl, refl, f _)) _)
 bars_reads l t h q (g.present d (g.locals_last ws y) b) k f =
-    λ c. (_, refl, refl, locals_reads l t h q d ws (s.local l y (λ u. write l sign.Bar b quiet k)) (local_then l t h q d ws y w.bar b k f) _)
+    λ c. (_, refl, refl, locals_reads l t h q d ws (s.local l y (λ u. placing (s.local_items y) (write l sign.Bar b quiet k))) (local_then l t h q d ws y w.bar b k f) _)
 
 -- behind the last operand of a binary
 keyword_behind : (b : g.Binary) (n : g.Opening) (l : Limits) (t : Text) (h : Hole) (k : Writer) → Reads l t (Moves.wanting (alone (argument h (g.opened (g.given b) n)))) k →
@@ -198,9 +201,9 @@ mutual
   unary_reads (g.primitive n) l t h k f = λ c. (_, refl, refl, f _)
   unary_reads (g.restart p) l t h k f = λ c. (_, refl, refl, f _)
   unary_reads (g.resent d n) l t h k f =
-      delegate_reads l t d h (write l (s.any_name n) n.label.spot (Counts.makes (s.delegate_spot d) 0 1) k) (λ c. (_, refl, refl, f _))
-  unary_reads (g.sent u n) l t h k f = unary_reads u l t h (write l (s.any_name n) n.label.spot (Counts.makes n.label.spot 1 1) k) (λ c. (_, refl, refl, f _))
-  unary_reads (g.sent_primitive u n) l t h k f = unary_reads u l t h (write l (sign.Primitive n.name) n.spot (Counts.makes n.spot 1 1) k) (λ c. (_, refl, refl, f _))
+      delegate_reads l t d h (write l (s.any_name n) n.label.spot (Counts.makes (s.delegate_spot d) (nodes.Message (s.delegate_target d) (One n.label.name) 0)) k) (λ c. (_, refl, refl, f _))
+  unary_reads (g.sent u n) l t h k f = unary_reads u l t h (write l (s.any_name n) n.label.spot (Counts.makes n.label.spot (s.unary_message n.label.name)) k) (λ c. (_, refl, refl, f _))
+  unary_reads (g.sent_primitive u n) l t h k f = unary_reads u l t h (write l (sign.Primitive n.name) n.spot (Counts.makes n.spot (nodes.Primitive (One n.name) 0 false false)) k) (λ c. (_, refl, refl, f _))
 
   pub body_reads : (b : g.Body) (l : Limits) (t : Text) (h : OperandHole) (p : Spot) (bs : g.Bars) (q : Spot) (k : Writer) → Reads l t (Moves.having h (g.block p bs b q)) k →
       Reads l t (Moves.wanting (alone (statement (in_block h p bs) g.none))) (s.body l b (write l sign.CloseBracket q (s.ending b q) k))
@@ -212,13 +215,13 @@ mutual
   operands_reads (g.first u p) n r l t h k f = unary_reads u l t (alone h) (write l (sign.Operator n r) p quiet k) (λ c. (_, refl, refl, f _))
   operands_reads (g.delegated d p) n r l t h k f = delegate_reads l t d (alone h) (write l (sign.Operator n r) p quiet k) (λ c. (_, refl, refl, f _))
   operands_reads (g.next us u p) n r l t h k f =
-      operands_reads us n r l t h (s.unary l u (owing (s.operator_node us) (write l (sign.Operator n r) p quiet k)))
-      (unary_reads u l t (right h n r us) (owing (s.operator_node us) (write l (sign.Operator n r) p quiet k)) (λ c. (_, operator_again h n r us u p, refl, f _)))
+      operands_reads us n r l t h (s.unary l u (owing (s.operator_node n us) (write l (sign.Operator n r) p quiet k)))
+      (unary_reads u l t (right h n r us) (owing (s.operator_node n us) (write l (sign.Operator n r) p quiet k)) (λ c. (_, operator_again h n r us u p, refl, f _)))
 
   pub binary_reads : (b : g.Binary) (l : Limits) (t : Text) (h : Hole) (k : Writer) → Reads l t (Moves.having (last_hole b h) (last_unary b)) (λ c. k (Moves.operated (last_hole b h) c)) →
       Reads l t (Moves.wanting (alone h)) (s.binary l b k)
   binary_reads (g.single u) l t h k f = unary_reads u l t (alone h) k f
-  binary_reads (g.several n r us u) l t h k f = operands_reads us n r l t h (s.unary l u (owing (s.operator_node us) k)) (unary_reads u l t (right h n r us) (owing (s.operator_node us) k) f)
+  binary_reads (g.several n r us u) l t h k f = operands_reads us n r l t h (s.unary l u (owing (s.operator_node n us) k)) (unary_reads u l t (right h n r us) (owing (s.operator_node n us) k) f)
 
   pub receiver_reads : (r : g.Receiver) (w' : g.Opening) (l : Limits) (t : Text) (h : Hole) (k : Writer) → Reads l t (Moves.wanting (alone (argument h (g.opened r w')))) k →
       Reads l t (Moves.wanting (alone h)) (s.receiver l r (write l (s.opening_symbol w') (s.opening_spot w') opening k))
@@ -243,8 +246,8 @@ mutual
       Reads l t (Moves.wanting (alone (statement h g.none))) (s.statements l ss k)
   statements_reads g.none l t h k f = f
   statements_reads (g.more ss e p) l t h k f =
-      statements_reads ss l t h (s.expression l e (write l sign.Period p quiet (owing (node p 1 0) k)))
-      (expression_reads e l t (statement h ss) (write l sign.Period p quiet (owing (node p 1 0) k)) (period_ends l t h ss e p k f))
+      statements_reads ss l t h (s.expression l e (write l sign.Period p quiet (owing (node p nodes.Drop) k)))
+      (expression_reads e l t (statement h ss) (write l sign.Period p quiet (owing (node p nodes.Drop) k)) (period_ends l t h ss e p k f))
 
   pub code_reads : (y : g.Code) (l : Limits) (t : Text) (h : CodeHole) (b : Spot) (k : Writer) → Reads l t (after_code h y b) k →
       Reads l t (Moves.wanting (alone (statement h g.none))) (s.code l y (write l (Moves.stop_symbol (closer h)) b (s.ending (g.full y) b) k))
@@ -255,8 +258,8 @@ mutual
       statements_reads ss l t h (s.expression l e (write l sign.Period d quiet (write l (Moves.stop_symbol (closer h)) b (s.ending (g.full (g.code ss None e (Some d))) b) k)))
       (expression_reads e l t (statement h ss) (write l sign.Period d quiet (write l (Moves.stop_symbol (closer h)) b (s.ending (g.full (g.code ss None e (Some d))) b) k)) (stopped_ends l t h ss e d b k f))
   code_reads (g.code ss (Some r) e None) l t h b k f =
-      statements_reads ss l t h (write l sign.Caret r quiet (s.expression l e (owing (node r 1 0) (write l (Moves.stop_symbol (closer h)) b (s.ending (g.full (g.code ss (Some r) e None)) b) k))))
+      statements_reads ss l t h (write l sign.Caret r quiet (s.expression l e (owing (node r nodes.Return) (write l (Moves.stop_symbol (closer h)) b (s.ending (g.full (g.code ss (Some r) e None)) b) k))))
       (λ c. (_, refl, refl, expression_reads e l t (returning h ss r) (write l (Moves.stop_symbol (closer h)) b (s.ending (g.full (g.code ss (Some r) e None)) b) k) (return_ends l t h ss r e b k f) _))
   code_reads (g.code ss (Some r) e (Some d)) l t h b k f =
-      statements_reads ss l t h (write l sign.Caret r quiet (s.expression l e (owing (node r 1 0) (write l sign.Period d quiet (write l (Moves.stop_symbol (closer h)) b (s.ending (g.full (g.code ss (Some r) e (Some d))) b) k)))))
+      statements_reads ss l t h (write l sign.Caret r quiet (s.expression l e (owing (node r nodes.Return) (write l sign.Period d quiet (write l (Moves.stop_symbol (closer h)) b (s.ending (g.full (g.code ss (Some r) e (Some d))) b) k)))))
       (λ c. (_, refl, refl, expression_reads e l t (returning h ss r) (write l sign.Period d quiet (write l (Moves.stop_symbol (closer h)) b (s.ending (g.full (g.code ss (Some r) e (Some d))) b) k)) (returned_ends l t h ss r e d b k f) _))

@@ -1,5 +1,5 @@
 -- Moves in the slots of a block go on by their signs.
-use Rattle.std.specs.Prelude.{◌≡◌, ℕ, true, Some, List, refl}
+use Rattle.std.specs.Prelude.{◌≡◌, ℕ, Some, List, refl}
 use Rattle.std.proofs.Common.{ap, sym, ◌∙◌}
 use Rattle.self_grammar.specs.declared.signs.Spot.{Spot}
 use Rattle.self_grammar.specs.declared.signs.Reserved.{Reserved}
@@ -8,11 +8,11 @@ use Rattle.self_grammar.specs.declared.signs.Role.TheVariants.{Equals, Arrow, St
 use Rattle.self_grammar.specs.declared.signs.Symbol.{Symbol}
 use Rattle.self_grammar.specs.declared.signs.Symbol.TheVariants as sign
 use Rattle.self_grammar.specs.Grammar as g
-use Rattle.self_grammar.specs.Counts.{Limits, Mark, Context, Writer, write, quiet, makes}
+use Rattle.self_grammar.specs.Counts.{Limits, Mark, Context, Writer, write, quiet, placing}
 use Rattle.self_grammar.specs.Scopes.{activation, scope}
 use Rattle.self_grammar.specs.Spelling as s
 use Rattle.self_grammar.proofs.Settled.{locals_settle}
-use Rattle.self_grammar.proofs.Places.{OperandHole}
+use Rattle.self_grammar.proofs.Places.{OperandHole, block_opening}
 use Rattle.self_grammar.proofs.Places as p
 use Rattle.self_grammar.proofs.Moves
 use Rattle.self_grammar.proofs.SlotMoves as v
@@ -22,23 +22,24 @@ use Rattle.self_grammar.proofs.SlotSound.{free_goes_on}
 
 -- what was written before the slots of a block, and then what follows
 opened_block : Limits → OperandHole → Spot → Spot → Writer → List Mark
-opened_block l h q d k = p.operand_said l h (write l sign.OpenBracket q (record (makes q 0 1) { opens = true }) (λ c. write l sign.Bar d quiet k (Moves.enter c)))
+opened_block l h q d k = p.operand_said l h (write l sign.OpenBracket q (block_opening q) (λ c. write l sign.Bar d quiet k (Moves.enter c)))
 
 block_step : (l : Limits) (h : OperandHole) (q d : Spot) (ws : g.LocalsBefore) (x : g.Local) (k : Writer) →
-    Moves.block_list l h q d ws (s.local l x (λ t. k) (Moves.block_scope l ws)) ≡ opened_block l h q d (s.locals_before l ws (s.local l x (λ t. k)) (scope activation))
+    Moves.block_list l h q d ws (s.local l x (λ t. placing (s.local_items x) k) (Moves.block_scope l ws))
+    ≡ opened_block l h q d (s.locals_before l ws (s.local l x (λ t. placing (s.local_items x) k)) (scope activation))
 unfolding opened_block
 block_step l h q d ws x k =
-    ap (λ (y : Writer). p.operand_said l h (write l sign.OpenBracket q (record (makes q 0 1) { opens = true }) (λ c. write l sign.Bar d quiet y (Moves.enter c))))
-    (sym (locals_settle l ws (s.local l x (λ t. k)) (scope activation)))
+    ap (λ (y : Writer). p.operand_said l h (write l sign.OpenBracket q (block_opening q) (λ c. write l sign.Bar d quiet y (Moves.enter c))))
+    (sym (locals_settle l ws (s.local l x (λ t. placing (s.local_items x) k)) (scope activation)))
 
 done_goes_on : (l : Limits) (said : Writer → List Mark) (h : OperandHole) (q d : Spot) (ws : g.LocalsBefore) (y : g.Local) (pre : Context → Context) →
     ((k : Writer) → said (λ c. k (pre c)) ≡ Moves.block_list l h q d ws (s.local l y (λ t. k) (Moves.block_scope l ws))) →
     (x : w'.After) (b : Spot) (m : Moves.Move) → w'.done_move h q d ws y pre x b ≡ Some m → GoesOn l said (w'.after_symbol x) b m
 unfolding opened_block
 done_goes_on l said h q d ws y pre says w'.period b m is =
-    along l _ _ _ _ m is (record { law = λ k. says (write l sign.Period b quiet k) ∙ block_step l h q d ws y (write l sign.Period b quiet k) })
+    along l _ _ _ _ m is (record { law = λ k. says (placing (s.local_items y) (write l sign.Period b quiet k)) ∙ block_step l h q d ws y (write l sign.Period b quiet k) })
 done_goes_on l said h q d ws y pre says w'.bar b m is =
-    along l _ _ _ _ m is (record { law = λ k. says (write l sign.Bar b quiet k) ∙ block_step l h q d ws y (write l sign.Bar b quiet k) })
+    along l _ _ _ _ m is (record { law = λ k. says (placing (s.local_items y) (write l sign.Bar b quiet k)) ∙ block_step l h q d ws y (write l sign.Bar b quiet k) })
 
 pub local_goes_on : (l : Limits) (h : OperandHole) (q d : Spot) (ws : g.LocalsBefore) (x : Symbol) (b : Spot) (m : Moves.Move) → w'.local_move l h q d ws x b ≡ Some m → GoesOn l (Moves.before l (Moves.at_local h q d ws)) x b m
 local_goes_on l h q d ws (sign.Integer z) b m is = cc

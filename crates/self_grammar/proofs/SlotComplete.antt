@@ -5,8 +5,9 @@ use Rattle.self_grammar.specs.declared.signs.Spot.{Spot}
 use Rattle.self_grammar.specs.declared.signs.Role.TheVariants.{Equals}
 use Rattle.self_grammar.specs.declared.signs.Symbol.{Symbol}
 use Rattle.self_grammar.specs.declared.signs.Symbol.TheVariants as sign
+use Rattle.self_grammar.specs.declared.pieces.Item.TheVariants as items
 use Rattle.self_grammar.specs.Grammar as g
-use Rattle.self_grammar.specs.Counts.{Limits, Mark, Context, Event, Writer, write, mark_at, moved, quiet, opening}
+use Rattle.self_grammar.specs.Counts.{Limits, Mark, Context, Event, Writer, write, mark_at, moved, quiet, saying, placing}
 use Rattle.self_grammar.specs.Scopes.{Scope, scope, holder, either, too_many_arguments}
 use Rattle.self_grammar.specs.Counts
 use Rattle.self_grammar.specs.Scopes
@@ -20,16 +21,16 @@ use Rattle.self_grammar.proofs.Complete.{Follows, Reads, code_reads}
 
 -- The slot may end with this sign, which does this and leads there.
 abbrev pub Done : Limits → Lists → g.Slot → v.After → Spot → Event → Moves.Place → Type 0
-Done l h x y b e to = (pre : Context → Context) → v.done_move l h x pre y b ≡ Some (record { pre = pre; event = e; post = Moves.stay; to = to })
+Done l h x y b e to = (pre : Context → Context) → v.done_move l h x pre y b ≡ Some (record { pre = λ c. Moves.place (s.slot_items x) (pre c); event = e; post = Moves.stay; to = to })
 
 member_then : (l : Limits) (t : Text) (h : Lists) (f : g.Member) (y : v.After) (b : Spot) (e : Event) (to : Moves.Place) (k : Writer) → Done l h (g.member f) y b e to → Reads l t to k →
-    Reads l t (Moves.member_done h f) (write l (v.after_symbol y) b e k)
+    Reads l t (Moves.member_done h f) (placing (s.member_items f) (write l (v.after_symbol y) b e k))
 member_then l t h f v.period b e to k d r = λ c. (_, d Moves.stay, refl, r _)
 member_then l t h f v.bar b e to k d r = λ c. (_, d Moves.stay, refl, r _)
 member_then l t h f v.end b e to k d r = λ c. (_, d Moves.stay, refl, r _)
 
 bare_then : (l : Limits) (t : Text) (h : Lists) (w : g.Label) (y : v.After) (b : Spot) (e : Event) (to : Moves.Place) (k : Writer) → Done l h (g.member (g.bare w)) y b e to → Reads l t to k →
-    Reads l t (Moves.at_slot (listed h)) (s.member l (g.bare w) (λ u. write l (v.after_symbol y) b e k) (scope_of l h))
+    Reads l t (Moves.at_slot (listed h)) (s.member l (g.bare w) (λ u. placing (s.member_items (g.bare w)) (write l (v.after_symbol y) b e k)) (scope_of l h))
 bare_then l t h w v.period b e to k d r = λ c. (_, refl, refl, (_, d _, refl, r _))
 bare_then l t h w v.bar b e to k d r = λ c. (_, refl, refl, (_, d _, refl, r _))
 bare_then l t h w v.end b e to k d r = λ c. (_, refl, refl, (_, d _, refl, r _))
@@ -38,31 +39,31 @@ no_some : (o : Option Moves.Move) (m : Moves.Move) → o ≡ None → o ≡ Some
 no_some o m e h = cc
 
 bars_argument_period : (l : Limits) (t : Text) (h : Contents) (q i : Spot) (ss : g.SlotsBefore) (w : g.Label) (b : Spot) (e : Event) (to : Moves.Place) (k : Writer) → Done l (in_bars h q i ss) (g.argument w) v.period b e to → Reads l t to k →
-    Reads l t (Moves.at_slot (listed (in_bars h q i ss))) (s.argument l w (λ u. write l sign.Period b e k) (scope_of l (in_bars h q i ss)))
+    Reads l t (Moves.at_slot (listed (in_bars h q i ss))) (s.argument l w (λ u. placing [] (write l sign.Period b e k)) (scope_of l (in_bars h q i ss)))
 bars_argument_period l t h q i ss w b e to k d r = λ c. (_, refl, refl, (_, d Moves.stay, refl, r _))
 
 object_argument_period : (l : Limits) (t : Text) (h : DataHole) (q i : Spot) (ss : g.SlotsBefore) (w : g.Label) (b : Spot) (e : Event) (to : Moves.Place) (k : Writer) → Done l (in_object h q i ss) (g.argument w) v.period b e to → Reads l t to k →
-    Reads l t (Moves.at_slot (listed (in_object h q i ss))) (s.argument l w (λ u. write l sign.Period b e k) (scope_of l (in_object h q i ss)))
+    Reads l t (Moves.at_slot (listed (in_object h q i ss))) (s.argument l w (λ u. placing [] (write l sign.Period b e k)) (scope_of l (in_object h q i ss)))
 object_argument_period l t h q i ss w b e to k d r = λ c. (_, refl, refl, (_, d Moves.stay, refl, r _))
 
 bars_argument_bar : (l : Limits) (t : Text) (h : Contents) (q i : Spot) (ss : g.SlotsBefore) (w : g.Label) (b : Spot) (e : Event) (to : Moves.Place) (k : Writer) → Done l (in_bars h q i ss) (g.argument w) v.bar b e to → Reads l t to k →
-    Reads l t (Moves.at_slot (listed (in_bars h q i ss))) (s.argument l w (λ u. write l sign.Bar b e k) (scope_of l (in_bars h q i ss)))
+    Reads l t (Moves.at_slot (listed (in_bars h q i ss))) (s.argument l w (λ u. placing [] (write l sign.Bar b e k)) (scope_of l (in_bars h q i ss)))
 bars_argument_bar l t h q i ss w b e to k d r = λ c. (_, refl, refl, (_, d Moves.stay, refl, r _))
 
 object_argument_bar : (l : Limits) (t : Text) (h : DataHole) (q i : Spot) (ss : g.SlotsBefore) (w : g.Label) (b : Spot) (e : Event) (to : Moves.Place) (k : Writer) → Done l (in_object h q i ss) (g.argument w) v.bar b e to → Reads l t to k →
-    Reads l t (Moves.at_slot (listed (in_object h q i ss))) (s.argument l w (λ u. write l sign.Bar b e k) (scope_of l (in_object h q i ss)))
+    Reads l t (Moves.at_slot (listed (in_object h q i ss))) (s.argument l w (λ u. placing [] (write l sign.Bar b e k)) (scope_of l (in_object h q i ss)))
 object_argument_bar l t h q i ss w b e to k d r = λ c. (_, refl, refl, (_, d Moves.stay, refl, r _))
 
 bars_argument_end : (l : Limits) (t : Text) (h : Contents) (q i : Spot) (ss : g.SlotsBefore) (w : g.Label) (b : Spot) (e : Event) (to : Moves.Place) (k : Writer) → Done l (in_bars h q i ss) (g.argument w) v.end b e to → Reads l t to k →
-    Reads l t (Moves.at_slot (listed (in_bars h q i ss))) (s.argument l w (λ u. write l sign.End b e k) (scope_of l (in_bars h q i ss)))
+    Reads l t (Moves.at_slot (listed (in_bars h q i ss))) (s.argument l w (λ u. placing [] (write l sign.End b e k)) (scope_of l (in_bars h q i ss)))
 bars_argument_end l t h q i ss w b e to k d r = λ c. (_, refl, refl, (_, d Moves.stay, refl, r _))
 
 object_argument_end : (l : Limits) (t : Text) (h : DataHole) (q i : Spot) (ss : g.SlotsBefore) (w : g.Label) (b : Spot) (e : Event) (to : Moves.Place) (k : Writer) → Done l (in_object h q i ss) (g.argument w) v.end b e to → Reads l t to k →
-    Reads l t (Moves.at_slot (listed (in_object h q i ss))) (s.argument l w (λ u. write l sign.End b e k) (scope_of l (in_object h q i ss)))
+    Reads l t (Moves.at_slot (listed (in_object h q i ss))) (s.argument l w (λ u. placing [] (write l sign.End b e k)) (scope_of l (in_object h q i ss)))
 object_argument_end l t h q i ss w b e to k d r = λ c. (_, refl, refl, (_, d Moves.stay, refl, r _))
 
 argument_then : (l : Limits) (t : Text) (h : Lists) (w : g.Label) (y : v.After) (b : Spot) (e : Event) (to : Moves.Place) (k : Writer) → Done l h (g.argument w) y b e to → Reads l t to k →
-    Reads l t (Moves.at_slot (listed h)) (s.argument l w (λ u. write l (v.after_symbol y) b e k) (scope_of l h))
+    Reads l t (Moves.at_slot (listed h)) (s.argument l w (λ u. placing [] (write l (v.after_symbol y) b e k)) (scope_of l h))
 argument_then l t (in_world ms) w y b e to k d r = absurd (no_some (v.done_move l (in_world ms) (g.argument w) Moves.stay y b) _ refl (d Moves.stay))
 argument_then l t (in_bars h q i ss) w v.period b e to k d r = bars_argument_period l t h q i ss w b e to k d r
 argument_then l t (in_object h q i ss) w v.period b e to k d r = object_argument_period l t h q i ss w b e to k d r
@@ -89,7 +90,7 @@ named_for l (listed h) (g.keyword n) e = refl
 named_for l lone x e = refl
 
 behind_then : (l : Limits) (t : Text) (h : Lists) (x : g.Head) (i : g.Word) (f : g.Method) (y : v.After) (b : Spot) (e : Event) (to : Moves.Place) (k : Writer) →
-    Done l h (g.member (g.coded (g.method x i f))) y b e to → Reads l t to k → Reads l t (Moves.behind (contents_for (listed h) x i) f) (write l (v.after_symbol y) b e k)
+    Done l h (g.member (g.coded (g.method x i f))) y b e to → Reads l t to k → Reads l t (Moves.behind (contents_for (listed h) x i) f) (placing (s.method_items (g.method x i f)) (write l (v.after_symbol y) b e k))
 behind_then l t h (g.unary_head n) i f v.period b e to k d r = λ c. (_, d Moves.stay, refl, r _)
 behind_then l t h (g.operator_with n a) i f v.period b e to k d r = λ c. (_, d Moves.stay, refl, r _)
 behind_then l t h (g.operator n) i f v.period b e to k d r = λ c. (_, d Moves.stay, refl, r _)
@@ -136,7 +137,7 @@ head_reads l t lone (g.keyword n) e k f = keyword_name_reads l t lone n (λ u. s
 path_then : (l : Limits) (t : Text) (h : Lists) (w : g.Label) (e : g.Word) (y : g.Path) (k : Writer) → Reads l t (Moves.member_done h (g.constant w e (g.simple (g.path y)))) k →
     Reads l t (Moves.holding (undecided h w e)) (s.path l y k)
 path_then l t h w e (g.named n) k f = λ c. (_, refl, refl, f _)
-path_then l t h w e (g.under y n) k f = path_then l t h w e y (write l (s.any_name n) n.label.spot quiet k) (λ c. (_, refl, refl, f _))
+path_then l t h w e (g.under y n) k f = path_then l t h w e y (write l (s.any_name n) n.label.spot (saying (items.Further n.label.name n.label.spot)) k) (λ c. (_, refl, refl, f _))
 
 simple_then : (l : Limits) (t : Text) (h : Lists) (w : g.Label) (e : g.Word) (d : g.Simple) (k : Writer) → Reads l t (Moves.member_done h (g.constant w e (g.simple d))) k →
     Reads l t (Moves.holding (undecided h w e)) (s.simple l d k)
@@ -147,8 +148,8 @@ simple_then l t h w e (g.path y) k f = path_then l t h w e y k f
 data_path_then : (l : Limits) (t : Text) (h : DataHole) (y : g.Path) (k : Writer) → Reads l t (v.datum_done h (g.simple (g.path y))) k → Reads l t (Moves.data_wanted h) (s.path l y k)
 data_path_then l t (assigned h w a) (g.named n) k f = λ c. (_, refl, refl, f _)
 data_path_then l t (parental h w x e) (g.named n) k f = λ c. (_, refl, refl, f _)
-data_path_then l t (assigned h w a) (g.under y n) k f = data_path_then l t (assigned h w a) y (write l (s.any_name n) n.label.spot quiet k) (λ c. (_, refl, refl, f _))
-data_path_then l t (parental h w x e) (g.under y n) k f = data_path_then l t (parental h w x e) y (write l (s.any_name n) n.label.spot quiet k) (λ c. (_, refl, refl, f _))
+data_path_then l t (assigned h w a) (g.under y n) k f = data_path_then l t (assigned h w a) y (write l (s.any_name n) n.label.spot (saying (items.Further n.label.name n.label.spot)) k) (λ c. (_, refl, refl, f _))
+data_path_then l t (parental h w x e) (g.under y n) k f = data_path_then l t (parental h w x e) y (write l (s.any_name n) n.label.spot (saying (items.Further n.label.name n.label.spot)) k) (λ c. (_, refl, refl, f _))
 
 data_simple_then : (l : Limits) (t : Text) (h : DataHole) (d : g.Simple) (k : Writer) → Reads l t (v.datum_done h (g.simple d)) k → Reads l t (Moves.data_wanted h) (s.simple l d k)
 data_simple_then l t h (g.integer z i) k f = λ c. (_, refl, refl, f _)
@@ -216,29 +217,29 @@ shut_follows l t h q d sl d2 c (m ∷ ms) f = (record f.0 { pre = λ i. f.0.pre 
 
 mutual
   pub slot_reads : (x : g.Slot) (l : Limits) (t : Text) (h : Lists) (y : v.After) (b : Spot) (e : Event) (to : Moves.Place) (k : Writer) → Done l h x y b e to → Reads l t to k →
-      Reads l t (Moves.at_slot (listed h)) (s.slot l x (λ u. write l (v.after_symbol y) b e k) (scope_of l h))
+      Reads l t (Moves.at_slot (listed h)) (s.slot l x (λ u. placing (s.slot_items x) (write l (v.after_symbol y) b e k)) (scope_of l h))
   slot_reads (g.member m) l t h y b e to k d r = member_reads m l t h y b e to k d r
   slot_reads (g.argument w) l t h y b e to k d r = argument_then l t h w y b e to k d r
 
   pub member_reads : (m : g.Member) (l : Limits) (t : Text) (h : Lists) (y : v.After) (b : Spot) (e : Event) (to : Moves.Place) (k : Writer) → Done l h (g.member m) y b e to → Reads l t to k →
-      Reads l t (Moves.at_slot (listed h)) (s.member l m (λ u. write l (v.after_symbol y) b e k) (scope_of l h))
+      Reads l t (Moves.at_slot (listed h)) (s.member l m (λ u. placing (s.member_items m) (write l (v.after_symbol y) b e k)) (scope_of l h))
   member_reads (g.constant w i (g.simple z)) l t h y b e to k d r =
-      λ c. (_, refl, refl, (_, refl, refl, simple_then l t h w i z (write l (v.after_symbol y) b e k) (member_then l t h (g.constant w i (g.simple z)) y b e to k d r) _))
+      λ c. (_, refl, refl, (_, refl, refl, simple_then l t h w i z (placing (s.member_items (g.constant w i (g.simple z))) (write l (v.after_symbol y) b e k)) (member_then l t h (g.constant w i (g.simple z)) y b e to k d r) _))
   member_reads (g.constant w i (g.object x)) l t h y b e to k d r =
-      λ c. (_, refl, refl, (_, refl, refl, object_reads x l t h w i (write l (v.after_symbol y) b e k) (member_then l t h (g.constant w i (g.object x)) y b e to k d r) _))
+      λ c. (_, refl, refl, (_, refl, refl, object_reads x l t h w i (placing (s.member_items (g.constant w i (g.object x))) (write l (v.after_symbol y) b e k)) (member_then l t h (g.constant w i (g.object x)) y b e to k d r) _))
   member_reads (g.assignable w i (g.simple z)) l t h y b e to k d r =
-      λ c. (_, refl, refl, (_, refl, refl, data_simple_then l t (assigned h w i) z (write l (v.after_symbol y) b e k) (member_then l t h (g.assignable w i (g.simple z)) y b e to k d r) _))
+      λ c. (_, refl, refl, (_, refl, refl, data_simple_then l t (assigned h w i) z (placing (s.member_items (g.assignable w i (g.simple z))) (write l (v.after_symbol y) b e k)) (member_then l t h (g.assignable w i (g.simple z)) y b e to k d r) _))
   member_reads (g.assignable w i (g.object x)) l t h y b e to k d r =
-      λ c. (_, refl, refl, (_, refl, refl, data_object_reads x l t (assigned h w i) (write l (v.after_symbol y) b e k) (member_then l t h (g.assignable w i (g.object x)) y b e to k d r) _))
+      λ c. (_, refl, refl, (_, refl, refl, data_object_reads x l t (assigned h w i) (placing (s.member_items (g.assignable w i (g.object x))) (write l (v.after_symbol y) b e k)) (member_then l t h (g.assignable w i (g.object x)) y b e to k d r) _))
   member_reads (g.bare w) l t h y b e to k d r = bare_then l t h w y b e to k d r
   member_reads (g.parent w j i (g.simple z)) l t h y b e to k d r =
-      λ c. (_, refl, refl, (_, refl, refl, (_, refl, refl, data_simple_then l t (parental h w j i) z (write l (v.after_symbol y) b e k) (member_then l t h (g.parent w j i (g.simple z)) y b e to k d r) _)))
+      λ c. (_, refl, refl, (_, refl, refl, (_, refl, refl, data_simple_then l t (parental h w j i) z (placing (s.member_items (g.parent w j i (g.simple z))) (write l (v.after_symbol y) b e k)) (member_then l t h (g.parent w j i (g.simple z)) y b e to k d r) _)))
   member_reads (g.parent w j i (g.object x)) l t h y b e to k d r =
-      λ c. (_, refl, refl, (_, refl, refl, (_, refl, refl, data_object_reads x l t (parental h w j i) (write l (v.after_symbol y) b e k) (member_then l t h (g.parent w j i (g.object x)) y b e to k d r) _)))
+      λ c. (_, refl, refl, (_, refl, refl, (_, refl, refl, data_object_reads x l t (parental h w j i) (placing (s.member_items (g.parent w j i (g.object x))) (write l (v.after_symbol y) b e k)) (member_then l t h (g.parent w j i (g.object x)) y b e to k d r) _)))
   member_reads (g.coded (g.method x i f)) l t h y b e to k d r =
-      head_reads l t (listed h) x i (λ n. s.method l n f (write l (v.after_symbol y) b e k))
-      (subst (λ n. Reads l t (Moves.holding (contents_for (listed h) x i)) (s.method l n f (write l (v.after_symbol y) b e k))) (named_for l (listed h) x i)
-      (method_reads f l t (contents_for (listed h) x i) (write l (v.after_symbol y) b e k) (behind_then l t h x i f y b e to k d r)))
+      head_reads l t (listed h) x i (λ n. s.method l n f (placing (s.method_items (g.method x i f)) (write l (v.after_symbol y) b e k)))
+      (subst (λ n. Reads l t (Moves.holding (contents_for (listed h) x i)) (s.method l n f (placing (s.method_items (g.method x i f)) (write l (v.after_symbol y) b e k)))) (named_for l (listed h) x i)
+      (method_reads f l t (contents_for (listed h) x i) (placing (s.method_items (g.method x i f)) (write l (v.after_symbol y) b e k)) (behind_then l t h x i f y b e to k d r)))
 
   pub object_reads : (x : g.Object) (l : Limits) (t : Text) (h : Lists) (w : g.Label) (i : g.Word) (k : Writer) → Reads l t (Moves.member_done h (g.constant w i (g.object x))) k →
       Reads l t (Moves.holding (undecided h w i)) (s.object l either x k)
@@ -274,8 +275,8 @@ mutual
   bars_reads (g.slots_ended ss) l t h q d b k f =
       before_reads ss l t h q d (λ u. write l sign.Bar b (record quiet { broken = s.at_bar (named_of l h) u }) (k u)) (λ c. (_, refl, refl, f _))
   bars_reads (g.slots_last ss x) l t h q d b k f =
-      before_reads ss l t h q d (s.slot l x (λ u. write l sign.Bar b (record quiet { broken = s.at_bar (named_of l h) u }) (k u)))
-      (subst (λ z. Reads l t (Moves.at_slot (listed (in_bars h q d ss))) z) (sym (slot_settles l x (λ u. write l sign.Bar b (record quiet { broken = s.at_bar (named_of l h) u }) (k u)) (scope_of l (in_bars h q d ss))))
+      before_reads ss l t h q d (s.slot l x (λ u. placing (s.slot_items x) (write l sign.Bar b (record quiet { broken = s.at_bar (named_of l h) u }) (k u))))
+      (subst (λ z. Reads l t (Moves.at_slot (listed (in_bars h q d ss))) z) (sym (slot_settles l x (λ u. placing (s.slot_items x) (write l sign.Bar b (record quiet { broken = s.at_bar (named_of l h) u }) (k u))) (scope_of l (in_bars h q d ss))))
       (slot_reads x l t (in_bars h q d ss) v.bar b (record quiet { broken = s.at_bar (named_of l h) (slot_scope l x (scope_of l (in_bars h q d ss))) }) (Moves.shut h q d (g.slots_last ss x) b)
       (k (slot_scope l x (scope_of l (in_bars h q d ss)))) (λ pre. refl) f))
 
@@ -283,47 +284,47 @@ mutual
       Reads l t (Moves.at_slot (listed (in_bars h q d g.no_slots))) (s.slots_before l ss k (named_of l h).inner)
   before_reads g.no_slots l t h q d k f = f
   before_reads (g.more_slots ss x p) l t h q d k f =
-      before_reads ss l t h q d (s.slot l x (λ u. write l sign.Period p quiet (k u)))
-      (subst (λ z. Reads l t (Moves.at_slot (listed (in_bars h q d ss))) z) (sym (slot_settles l x (λ u. write l sign.Period p quiet (k u)) (scope_of l (in_bars h q d ss))))
+      before_reads ss l t h q d (s.slot l x (λ u. placing (s.slot_items x) (write l sign.Period p quiet (k u))))
+      (subst (λ z. Reads l t (Moves.at_slot (listed (in_bars h q d ss))) z) (sym (slot_settles l x (λ u. placing (s.slot_items x) (write l sign.Period p quiet (k u))) (scope_of l (in_bars h q d ss))))
       (slot_reads x l t (in_bars h q d ss) v.period p quiet (Moves.at_slot (listed (in_bars h q d (g.more_slots ss x p)))) (k (slot_scope l x (scope_of l (in_bars h q d ss)))) (λ pre. refl) f))
 
   pub object_bars_reads : (sl : g.Slots) (l : Limits) (t : Text) (h : DataHole) (q d b : Spot) (k : s.Listing) → Reads l t (Moves.data_shut h q d sl b) (k (slots_scope l sl (scope holder))) →
       Reads l t (Moves.at_slot (listed (in_object h q d g.no_slots))) (s.slots l sl (λ u. write l sign.Bar b quiet (k u)) (scope holder))
   object_bars_reads (g.slots_ended ss) l t h q d b k f = object_before_reads ss l t h q d (λ u. write l sign.Bar b quiet (k u)) (λ c. (_, refl, refl, f _))
   object_bars_reads (g.slots_last ss x) l t h q d b k f =
-      object_before_reads ss l t h q d (s.slot l x (λ u. write l sign.Bar b quiet (k u)))
-      (subst (λ z. Reads l t (Moves.at_slot (listed (in_object h q d ss))) z) (sym (slot_settles l x (λ u. write l sign.Bar b quiet (k u)) (scope_of l (in_object h q d ss))))
+      object_before_reads ss l t h q d (s.slot l x (λ u. placing (s.slot_items x) (write l sign.Bar b quiet (k u))))
+      (subst (λ z. Reads l t (Moves.at_slot (listed (in_object h q d ss))) z) (sym (slot_settles l x (λ u. placing (s.slot_items x) (write l sign.Bar b quiet (k u))) (scope_of l (in_object h q d ss))))
       (slot_reads x l t (in_object h q d ss) v.bar b quiet (Moves.data_shut h q d (g.slots_last ss x) b) (k (slot_scope l x (scope_of l (in_object h q d ss)))) (λ pre. refl) f))
 
   pub object_before_reads : (ss : g.SlotsBefore) (l : Limits) (t : Text) (h : DataHole) (q d : Spot) (k : s.Listing) → Reads l t (Moves.at_slot (listed (in_object h q d ss))) (k (scope_of l (in_object h q d ss))) →
       Reads l t (Moves.at_slot (listed (in_object h q d g.no_slots))) (s.slots_before l ss k (scope holder))
   object_before_reads g.no_slots l t h q d k f = f
   object_before_reads (g.more_slots ss x p) l t h q d k f =
-      object_before_reads ss l t h q d (s.slot l x (λ u. write l sign.Period p quiet (k u)))
-      (subst (λ z. Reads l t (Moves.at_slot (listed (in_object h q d ss))) z) (sym (slot_settles l x (λ u. write l sign.Period p quiet (k u)) (scope_of l (in_object h q d ss))))
+      object_before_reads ss l t h q d (s.slot l x (λ u. placing (s.slot_items x) (write l sign.Period p quiet (k u))))
+      (subst (λ z. Reads l t (Moves.at_slot (listed (in_object h q d ss))) z) (sym (slot_settles l x (λ u. placing (s.slot_items x) (write l sign.Period p quiet (k u))) (scope_of l (in_object h q d ss))))
       (slot_reads x l t (in_object h q d ss) v.period p quiet (Moves.at_slot (listed (in_object h q d (g.more_slots ss x p)))) (k (slot_scope l x (scope_of l (in_object h q d ss)))) (λ pre. refl) f))
 
 members_reads : (ms : g.MembersBefore) (l : Limits) (t : Text) (k : s.Listing) → Reads l t (Moves.at_slot (listed (in_world ms))) (k (scope_of l (in_world ms))) →
     Reads l t (Moves.at_slot (listed (in_world g.no_members))) (s.members_before l ms k (scope holder))
 members_reads g.no_members l t k f = f
 members_reads (g.more_members ms m p) l t k f =
-    members_reads ms l t (s.member l m (λ u. write l sign.Period p quiet (k u)))
-    (subst (λ z. Reads l t (Moves.at_slot (listed (in_world ms))) z) (sym (member_settles l m (λ u. write l sign.Period p quiet (k u)) (scope_of l (in_world ms))))
+    members_reads ms l t (s.member l m (λ u. placing (s.member_items m) (write l sign.Period p quiet (k u))))
+    (subst (λ z. Reads l t (Moves.at_slot (listed (in_world ms))) z) (sym (member_settles l m (λ u. placing (s.member_items m) (write l sign.Period p quiet (k u))) (scope_of l (in_world ms))))
     (member_reads m l t (in_world ms) v.period p quiet (Moves.at_slot (listed (in_world (g.more_members ms m p)))) (k (scope_of l (in_world (g.more_members ms m p)))) (λ pre. refl) f))
 
 -- Each world is followed from the start to its end,
 pub world_reads : (l : Limits) (x : g.World) → Follows l (p.world x) (Moves.at_slot (listed (in_world g.no_members))) (s.at_first 1) (s.world l x)
 world_reads l (g.world_ended ms q) = members_reads ms l (p.world (g.world_ended ms q)) (λ u. s.finish l q) (λ c. (_, refl, refl, refl)) (s.at_first 1)
 world_reads l (g.world_last ms m q) =
-    members_reads ms l (p.world (g.world_last ms m q)) (s.member l m (λ u. s.finish l q))
+    members_reads ms l (p.world (g.world_last ms m q)) (s.member l m (λ u. placing (s.member_items m) (s.finish l q)))
     (member_reads m l (p.world (g.world_last ms m q)) (in_world ms) v.end q quiet (Moves.finished (p.world (g.world_last ms m q))) (λ c. []) (λ pre. refl) (λ c. refl))
     (s.at_first 1)
 
 -- and each edit.
 pub edit_reads : (l : Limits) (x : g.Edit) → Follows l (p.edit x) (Moves.at_slot lone) (s.at_first 0) (s.edit l x)
 edit_reads l (g.edit (g.method x i f) None q) =
-    head_reads l (p.edit (g.edit (g.method x i f) None q)) lone x i (λ n. s.method l n f (s.finish l q))
-    (method_reads f l (p.edit (g.edit (g.method x i f) None q)) (coded lone x i) (s.finish l q) (λ c. (_, refl, refl, refl))) (s.at_first 0)
+    head_reads l (p.edit (g.edit (g.method x i f) None q)) lone x i (λ n. s.method l n f (placing (s.method_items (g.method x i f)) (s.finish l q)))
+    (method_reads f l (p.edit (g.edit (g.method x i f) None q)) (coded lone x i) (placing (s.method_items (g.method x i f)) (s.finish l q)) (λ c. (_, refl, refl, refl))) (s.at_first 0)
 edit_reads l (g.edit (g.method x i f) (Some d) q) =
-    head_reads l (p.edit (g.edit (g.method x i f) (Some d) q)) lone x i (λ n. s.method l n f (write l sign.Period d quiet (s.finish l q)))
-    (method_reads f l (p.edit (g.edit (g.method x i f) (Some d) q)) (coded lone x i) (write l sign.Period d quiet (s.finish l q)) (λ c. (_, refl, refl, (_, refl, refl, refl)))) (s.at_first 0)
+    head_reads l (p.edit (g.edit (g.method x i f) (Some d) q)) lone x i (λ n. s.method l n f (placing (s.method_items (g.method x i f)) (write l sign.Period d quiet (s.finish l q))))
+    (method_reads f l (p.edit (g.edit (g.method x i f) (Some d) q)) (coded lone x i) (placing (s.method_items (g.method x i f)) (write l sign.Period d quiet (s.finish l q))) (λ c. (_, refl, refl, (_, refl, refl, refl)))) (s.at_first 0)

@@ -8,8 +8,11 @@ use Rattle.self_grammar.specs.declared.signs.Role.{Role}
 use Rattle.self_grammar.specs.declared.signs.Role.TheVariants.{Equals, Arrow, Star, Other}
 use Rattle.self_grammar.specs.declared.signs.Symbol.{Symbol}
 use Rattle.self_grammar.specs.declared.signs.Symbol.TheVariants as sign
+use Rattle.self_grammar.specs.declared.pieces.Item.{Item}
+use Rattle.self_grammar.specs.declared.pieces.Item.TheVariants as items
+use Rattle.self_grammar.specs.Parts.{parts_in}
 use Rattle.self_grammar.specs.Grammar as g
-use Rattle.self_grammar.specs.Counts.{Limits, Mark, Context, Event, Writer, write, quiet, opening, closing}
+use Rattle.self_grammar.specs.Counts.{Limits, Mark, Context, Event, Writer, write, quiet, saying, placing}
 use Rattle.self_grammar.specs.Scopes.{scope, holder, either, activation, again, too_many_arguments}
 use Rattle.self_grammar.specs.Spelling as s
 use Rattle.self_grammar.proofs.Settled.{keyword_scope, head_inner, slot_scope, slots_scope, keyword_settles, keyword_head_settles, head_settles, before_settles, slots_settle, members_settles}
@@ -35,54 +38,55 @@ equals_goes_on l said n b Other o m is h = cc
 
 -- the slot before what ends it, as the list has it
 world_step : (l : Limits) (ms : g.MembersBefore) (x : g.Member) (w : Writer) →
-    p.lists l (in_world ms) (s.member l x (λ t. w) (scope_of l (in_world ms))) ≡ s.members_before l ms (s.member l x (λ t. w)) (scope holder) (s.at_first 1)
-world_step l ms x w = ap (λ (y : Writer). y (s.at_first 1)) (sym (members_settles l ms (s.member l x (λ t. w)) (scope holder)))
+    p.lists l (in_world ms) (s.member l x (λ t. placing (s.member_items x) w) (scope_of l (in_world ms)))
+    ≡ s.members_before l ms (s.member l x (λ t. placing (s.member_items x) w)) (scope holder) (s.at_first 1)
+world_step l ms x w = ap (λ (y : Writer). y (s.at_first 1)) (sym (members_settles l ms (s.member l x (λ t. placing (s.member_items x) w)) (scope holder)))
 
 bars_step : (l : Limits) (h : Contents) (q d : Spot) (ss : g.SlotsBefore) (x : g.Slot) (w : Writer) →
-    p.lists l (in_bars h q d ss) (s.slot l x (λ t. w) (scope_of l (in_bars h q d ss))) ≡ Moves.bars_said l h q d (g.slots_last ss x) (λ t. w)
+    p.lists l (in_bars h q d ss) (s.slot l x (λ t. placing (s.slot_items x) w) (scope_of l (in_bars h q d ss))) ≡ Moves.bars_said l h q d (g.slots_last ss x) (λ t. w)
 bars_step l h q d ss x w =
-    ap (λ y. p.contents l h (write l sign.OpenParen q (record opening { next = s.wants_bar (named_of l h) }) (write l sign.Bar d quiet y)))
-    (sym (before_settles l ss (s.slot l x (λ t. w)) (named_of l h).inner))
+    ap (λ y. p.contents l h (write l sign.OpenParen q (record (s.opening_item q) { next = s.wants_bar (named_of l h) }) (write l sign.Bar d quiet y)))
+    (sym (before_settles l ss (s.slot l x (λ t. placing (s.slot_items x) w)) (named_of l h).inner))
 
 object_step : (l : Limits) (h : DataHole) (q d : Spot) (ss : g.SlotsBefore) (x : g.Slot) (w : Writer) →
-    p.lists l (in_object h q d ss) (s.slot l x (λ t. w) (scope_of l (in_object h q d ss))) ≡ Moves.data_bars_said l h q d (g.slots_last ss x) (λ t. w)
+    p.lists l (in_object h q d ss) (s.slot l x (λ t. placing (s.slot_items x) w) (scope_of l (in_object h q d ss))) ≡ Moves.data_bars_said l h q d (g.slots_last ss x) (λ t. w)
 object_step l h q d ss x w =
-    ap (λ y. p.data_hole l h (write l sign.OpenParen q opening (write l sign.Bar d quiet y))) (sym (before_settles l ss (s.slot l x (λ t. w)) (scope holder)))
+    ap (λ y. p.data_hole l h (write l sign.OpenParen q (s.opening_item q) (write l sign.Bar d quiet y))) (sym (before_settles l ss (s.slot l x (λ t. placing (s.slot_items x) w)) (scope holder)))
 
 -- what stands behind the slots may speak of their scope
 bars_settle : (l : Limits) (h : Contents) (q d : Spot) (sl : g.Slots) (k : s.Listing) →
     Moves.bars_said l h q d sl k ≡ Moves.bars_said l h q d sl (λ t. k (slots_scope l sl (named_of l h).inner))
 bars_settle l h q d sl k =
-    ap (λ y. p.contents l h (write l sign.OpenParen q (record opening { next = s.wants_bar (named_of l h) }) (write l sign.Bar d quiet y))) (slots_settle l sl k (named_of l h).inner)
+    ap (λ y. p.contents l h (write l sign.OpenParen q (record (s.opening_item q) { next = s.wants_bar (named_of l h) }) (write l sign.Bar d quiet y))) (slots_settle l sl k (named_of l h).inner)
 
 data_bars_settle : (l : Limits) (h : DataHole) (q d : Spot) (sl : g.Slots) (k : s.Listing) →
     Moves.data_bars_said l h q d sl k ≡ Moves.data_bars_said l h q d sl (λ t. k (slots_scope l sl (scope holder)))
-data_bars_settle l h q d sl k = ap (λ y. p.data_hole l h (write l sign.OpenParen q opening (write l sign.Bar d quiet y))) (slots_settle l sl k (scope holder))
+data_bars_settle l h q d sl k = ap (λ y. p.data_hole l h (write l sign.OpenParen q (s.opening_item q) (write l sign.Bar d quiet y))) (slots_settle l sl k (scope holder))
 
 done_goes_on : (l : Limits) (said : Writer → List Mark) (h : Lists) (y : g.Slot) (pre : Context → Context) →
     ((k : Writer) → said (λ c. k (pre c)) ≡ p.lists l h (s.slot l y (λ t. k) (scope_of l h))) →
     (x : v.After) (b : Spot) (m : Moves.Move) → v.done_move l h y pre x b ≡ Some m → GoesOn l said (v.after_symbol x) b m
 done_goes_on l said (in_world ms) (g.member y) pre says v.period b m is =
-    along l _ _ _ _ m is (record { law = λ k. says (write l sign.Period b quiet k) ∙ world_step l ms y (write l sign.Period b quiet k) })
+    along l _ _ _ _ m is (record { law = λ k. says (placing (s.member_items y) (write l sign.Period b quiet k)) ∙ world_step l ms y (write l sign.Period b quiet k) })
 done_goes_on l said (in_world ms) (g.member y) pre says v.bar b m is = cc
 done_goes_on l said (in_world ms) (g.member y) pre says v.end b m is =
-    along l _ _ _ _ m is (record { law = λ k. says (write l sign.End b quiet k) ∙ world_step l ms y (write l sign.End b quiet k) })
+    along l _ _ _ _ m is (record { law = λ k. says (placing (s.member_items y) (write l sign.End b quiet k)) ∙ world_step l ms y (write l sign.End b quiet k) })
 done_goes_on l said (in_world ms) (g.argument w) pre says v.period b m is = cc
 done_goes_on l said (in_world ms) (g.argument w) pre says v.bar b m is = cc
 done_goes_on l said (in_world ms) (g.argument w) pre says v.end b m is = cc
 done_goes_on l said (in_bars h q d ss) y pre says v.period b m is =
-    along l _ _ _ _ m is (record { law = λ k. says (write l sign.Period b quiet k) ∙ bars_step l h q d ss y (write l sign.Period b quiet k) })
+    along l _ _ _ _ m is (record { law = λ k. says (placing (s.slot_items y) (write l sign.Period b quiet k)) ∙ bars_step l h q d ss y (write l sign.Period b quiet k) })
 done_goes_on l said (in_bars h q d ss) y pre says v.bar b m is =
     along l _ _ _ _ m is (record {
-      law = λ k. says (write l sign.Bar b (record quiet { broken = s.at_bar (named_of l h) (slot_scope l y (scope_of l (in_bars h q d ss))) }) k)
+      law = λ k. says (placing (s.slot_items y) (write l sign.Bar b (record quiet { broken = s.at_bar (named_of l h) (slot_scope l y (scope_of l (in_bars h q d ss))) }) k))
           ∙ bars_step l h q d ss y (write l sign.Bar b (record quiet { broken = s.at_bar (named_of l h) (slot_scope l y (scope_of l (in_bars h q d ss))) }) k)
           ∙ sym (bars_settle l h q d (g.slots_last ss y) (λ t. write l sign.Bar b (record quiet { broken = s.at_bar (named_of l h) t }) k));
     })
 done_goes_on l said (in_bars h q d ss) y pre says v.end b m is = cc
 done_goes_on l said (in_object h q d ss) y pre says v.period b m is =
-    along l _ _ _ _ m is (record { law = λ k. says (write l sign.Period b quiet k) ∙ object_step l h q d ss y (write l sign.Period b quiet k) })
+    along l _ _ _ _ m is (record { law = λ k. says (placing (s.slot_items y) (write l sign.Period b quiet k)) ∙ object_step l h q d ss y (write l sign.Period b quiet k) })
 done_goes_on l said (in_object h q d ss) y pre says v.bar b m is =
-    along l _ _ _ _ m is (record { law = λ k. says (write l sign.Bar b quiet k) ∙ object_step l h q d ss y (write l sign.Bar b quiet k) })
+    along l _ _ _ _ m is (record { law = λ k. says (placing (s.slot_items y) (write l sign.Bar b quiet k)) ∙ object_step l h q d ss y (write l sign.Bar b quiet k) })
 done_goes_on l said (in_object h q d ss) y pre says v.end b m is = cc
 
 list_end_goes_on : (l : Limits) (h : Start) (x : v.After) (b : Spot) (m : Moves.Move) → v.list_end l h x b ≡ Some m →
@@ -197,7 +201,7 @@ starred_goes_on l h w y' (sign.Bad z) b m is = cc
 pub operator_named_goes_on : (l : Limits) (h : Start) (o : g.AnyOperator) (x : Symbol) (b : Spot) (m : Moves.Move) → v.operator_named_move l h o x b ≡ Some m → GoesOn l (Moves.before l (Moves.operator_named h o)) x b m
 operator_named_goes_on l h o (sign.Integer z) b m is = cc
 operator_named_goes_on l h o (sign.Text i j) b m is = cc
-operator_named_goes_on l h o (sign.Name n t r) b m is = free_goes_on l _ (λ a. sign.Name n t a) b r (Moves.simply (v.argument_event l (scope activation) (Moves.label n t b)) (Moves.operator_argued h o (Moves.label n t b))) m is (λ e. along l _ _ _ _ m e (record { law = λ k. refl }))
+operator_named_goes_on l h o (sign.Name n t r) b m is = free_goes_on l _ (λ a. sign.Name n t a) b r (Moves.simply (v.head_argument_event l (scope activation) (Moves.label n t b)) (Moves.operator_argued h o (Moves.label n t b))) m is (λ e. along l _ _ _ _ m e (record { law = λ k. refl }))
 operator_named_goes_on l h o (sign.Primitive n) b m is = cc
 operator_named_goes_on l h o sign.Restart b m is = cc
 operator_named_goes_on l h o (sign.Keyword n) b m is = cc
@@ -257,7 +261,7 @@ keyword_named_goes_on l h kn sign.RestartKeyword b m is = cc
 keyword_named_goes_on l h kn (sign.CapitalKeyword n y) b m is = along l _ _ _ _ m is (record { law = λ k. refl })
 keyword_named_goes_on l h kn (sign.Argument n t r) b m is = cc
 keyword_named_goes_on l h kn (sign.Delegate n r) b m is = cc
-keyword_named_goes_on l h kn (sign.Operator n r) b m is = equals_goes_on l _ n b r (Moves.simply (v.keyword_broken l h kn) (Moves.holding (coded h (g.keyword kn) (Moves.word n b)))) m is (λ e. along l _ _ _ _ m e (record { law = λ k. ap (λ (w : Writer). p.start l h w) (sym (keyword_settles l kn (λ t. s.mark l Equals (Moves.word n b) (record quiet { broken = again t (s.words kn) (s.first_word kn) }) k) (start_scope l h))) }))
+keyword_named_goes_on l h kn (sign.Operator n r) b m is = equals_goes_on l _ n b r (Moves.simply (v.keyword_broken l h kn) (Moves.holding (coded h (g.keyword kn) (Moves.word n b)))) m is (λ e. along l _ _ _ _ m e (record { law = λ k. ap (λ (w : Writer). p.start l h w) (sym (keyword_settles l kn (λ t. s.mark l Equals (Moves.word n b) (record quiet { broken = again t (parts_in (s.words kn)) (s.first_word kn) }) k) (start_scope l h))) }))
 keyword_named_goes_on l h kn sign.OpenParen b m is = cc
 keyword_named_goes_on l h kn sign.CloseParen b m is = cc
 keyword_named_goes_on l h kn sign.OpenBracket b m is = cc
@@ -280,7 +284,7 @@ keyword_argued_goes_on l h kh sign.RestartKeyword b m is = cc
 keyword_argued_goes_on l h kh (sign.CapitalKeyword n y) b m is = along l _ _ _ _ m is (record { law = λ k. refl })
 keyword_argued_goes_on l h kh (sign.Argument n t r) b m is = cc
 keyword_argued_goes_on l h kh (sign.Delegate n r) b m is = cc
-keyword_argued_goes_on l h kh (sign.Operator n r) b m is = equals_goes_on l _ n b r (Moves.simply (v.keyword_broken l h (s.head_name kh)) (Moves.holding (coded h (g.keyword_with kh) (Moves.word n b)))) m is (λ e. along l _ _ _ _ m e (record { law = λ k. ap (λ (w : Writer). p.start l h w) (sym (keyword_head_settles l kh (λ t i. s.mark l Equals (Moves.word n b) (record quiet { broken = again t (s.words (s.head_name kh)) (s.first_word (s.head_name kh)) }) k) (start_scope l h))) }))
+keyword_argued_goes_on l h kh (sign.Operator n r) b m is = equals_goes_on l _ n b r (Moves.simply (v.keyword_broken l h (s.head_name kh)) (Moves.holding (coded h (g.keyword_with kh) (Moves.word n b)))) m is (λ e. along l _ _ _ _ m e (record { law = λ k. ap (λ (w : Writer). p.start l h w) (sym (keyword_head_settles l kh (λ t i. s.mark l Equals (Moves.word n b) (record quiet { broken = again t (parts_in (s.words (s.head_name kh))) (s.first_word (s.head_name kh)) }) k) (start_scope l h))) }))
 keyword_argued_goes_on l h kh sign.OpenParen b m is = cc
 keyword_argued_goes_on l h kh sign.CloseParen b m is = cc
 keyword_argued_goes_on l h kh sign.OpenBracket b m is = cc
@@ -294,7 +298,7 @@ keyword_argued_goes_on l h kh (sign.Bad z) b m is = cc
 pub keyword_wanting_goes_on : (l : Limits) (h : Start) (kh : g.KeywordHead) (q : g.Part) (x : Symbol) (b : Spot) (m : Moves.Move) → v.keyword_wanting_move l h kh q x b ≡ Some m → GoesOn l (Moves.before l (Moves.keyword_wanting h kh q)) x b m
 keyword_wanting_goes_on l h kh q (sign.Integer z) b m is = cc
 keyword_wanting_goes_on l h kh q (sign.Text i j) b m is = cc
-keyword_wanting_goes_on l h kh q (sign.Name n t r) b m is = free_goes_on l _ (λ a. sign.Name n t a) b r (Moves.simply (v.argument_event l (head_inner kh) (Moves.label n t b)) (Moves.keyword_argued h (g.head_next kh q (Moves.label n t b)))) m is (λ e. along l _ _ _ _ m e (record { law = λ k. ap (λ (w : Writer). p.start l h w) (sym (keyword_head_settles l kh (λ t' i. s.part l q (record quiet { broken = too_many_arguments l (s.count (s.head_name kh)) }) (s.head_argument l (Moves.label n t b) (λ j. k) i)) (start_scope l h))) }))
+keyword_wanting_goes_on l h kh q (sign.Name n t r) b m is = free_goes_on l _ (λ a. sign.Name n t a) b r (Moves.simply (v.head_argument_event l (head_inner kh) (Moves.label n t b)) (Moves.keyword_argued h (g.head_next kh q (Moves.label n t b)))) m is (λ e. along l _ _ _ _ m e (record { law = λ k. ap (λ (w : Writer). p.start l h w) (sym (keyword_head_settles l kh (λ t' i. s.part l q (record quiet { broken = too_many_arguments l (s.count (s.head_name kh)) }) (s.head_argument l (Moves.label n t b) (λ j. k) i)) (start_scope l h))) }))
 keyword_wanting_goes_on l h kh q (sign.Primitive n) b m is = cc
 keyword_wanting_goes_on l h kh q sign.Restart b m is = cc
 keyword_wanting_goes_on l h kh q (sign.Keyword n) b m is = cc
@@ -314,16 +318,16 @@ keyword_wanting_goes_on l h kh q sign.Caret b m is = cc
 keyword_wanting_goes_on l h kh q sign.End b m is = cc
 keyword_wanting_goes_on l h kh q (sign.Bad z) b m is = cc
 
-simple_goes_on : (l : Limits) (h : Contents) (d : g.Simple) (x : Symbol) (b : Spot) (m : Moves.Move) → v.simple_move h d ≡ Some m →
-    ((k : Writer) → s.simple l d k ≡ write l x b quiet k) → GoesOn l (Moves.before l (Moves.holding h)) x b m
-simple_goes_on l (undecided h w e) d x b m is same =
+simple_goes_on : (l : Limits) (h : Contents) (d : g.Simple) (i : Item) (x : Symbol) (b : Spot) (m : Moves.Move) → v.simple_move h d i ≡ Some m →
+    ((k : Writer) → s.simple l d k ≡ write l x b (saying i) k) → GoesOn l (Moves.before l (Moves.holding h)) x b m
+simple_goes_on l (undecided h w e) d i x b m is same =
     along l _ _ _ _ m is (record { law = λ k. ap (λ (y : Writer). p.lists l h (s.slot_name l w (λ t. s.mark l Equals e quiet y) (scope_of l h))) (sym (same k)) })
-simple_goes_on l (coded h y e) d x b m is same = cc
+simple_goes_on l (coded h y e) d i x b m is same = cc
 
 pub holding_goes_on : (l : Limits) (h : Contents) (x : Symbol) (b : Spot) (m : Moves.Move) → v.holding_move l h x b ≡ Some m → GoesOn l (Moves.before l (Moves.holding h)) x b m
-holding_goes_on l h (sign.Integer z) b m is = simple_goes_on l h (g.integer z b) (sign.Integer z) b m is (λ k. refl)
-holding_goes_on l h (sign.Text i j) b m is = simple_goes_on l h (g.string (record { start = i; end = j; spot = b })) (sign.Text i j) b m is (λ k. refl)
-holding_goes_on l h (sign.Name n t r) b m is = simple_goes_on l h (g.path (g.named (Moves.any n t r b))) (sign.Name n t r) b m is (λ k. refl)
+holding_goes_on l h (sign.Integer z) b m is = simple_goes_on l h (g.integer z b) (items.Integer z) (sign.Integer z) b m is (λ k. refl)
+holding_goes_on l h (sign.Text i j) b m is = simple_goes_on l h (g.string (record { start = i; end = j; spot = b })) (items.Text i j) (sign.Text i j) b m is (λ k. refl)
+holding_goes_on l h (sign.Name n t r) b m is = simple_goes_on l h (g.path (g.named (Moves.any n t r b))) (items.Root n b) (sign.Name n t r) b m is (λ k. refl)
 holding_goes_on l h (sign.Primitive n) b m is = cc
 holding_goes_on l h sign.Restart b m is = cc
 holding_goes_on l h (sign.Keyword n) b m is = cc
@@ -349,9 +353,9 @@ datum_goes_on l said (assigned h w a) d x b e m is same = along l _ _ _ _ m is (
 datum_goes_on l said (parental h w y a) d x b e m is same = along l _ _ _ _ m is (record { law = same })
 
 pub data_wanted_goes_on : (l : Limits) (h : DataHole) (x : Symbol) (b : Spot) (m : Moves.Move) → v.data_wanted_move h x b ≡ Some m → GoesOn l (Moves.before l (Moves.data_wanted h)) x b m
-data_wanted_goes_on l h (sign.Integer z) b m is = datum_goes_on l _ h (g.simple (g.integer z b)) (sign.Integer z) b quiet m is (λ k. refl)
-data_wanted_goes_on l h (sign.Text i j) b m is = datum_goes_on l _ h (g.simple (g.string (record { start = i; end = j; spot = b }))) (sign.Text i j) b quiet m is (λ k. refl)
-data_wanted_goes_on l h (sign.Name n t r) b m is = datum_goes_on l _ h (g.simple (g.path (g.named (Moves.any n t r b)))) (sign.Name n t r) b quiet m is (λ k. refl)
+data_wanted_goes_on l h (sign.Integer z) b m is = datum_goes_on l _ h (g.simple (g.integer z b)) (sign.Integer z) b (saying (items.Integer z)) m is (λ k. refl)
+data_wanted_goes_on l h (sign.Text i j) b m is = datum_goes_on l _ h (g.simple (g.string (record { start = i; end = j; spot = b }))) (sign.Text i j) b (saying (items.Text i j)) m is (λ k. refl)
+data_wanted_goes_on l h (sign.Name n t r) b m is = datum_goes_on l _ h (g.simple (g.path (g.named (Moves.any n t r b)))) (sign.Name n t r) b (saying (items.Root n b)) m is (λ k. refl)
 data_wanted_goes_on l h (sign.Primitive n) b m is = cc
 data_wanted_goes_on l h sign.Restart b m is = cc
 data_wanted_goes_on l h (sign.Keyword n) b m is = cc
@@ -423,7 +427,7 @@ data_opened_goes_on l h q (sign.Argument n t r) b m is = cc
 data_opened_goes_on l h q (sign.Delegate n r) b m is = cc
 data_opened_goes_on l h q (sign.Operator n r) b m is = cc
 data_opened_goes_on l h q sign.OpenParen b m is = cc
-data_opened_goes_on l h q sign.CloseParen b m is = datum_goes_on l _ h (g.object (g.empty_object q b)) sign.CloseParen b (record closing { counted = q ∷ [] }) m is (λ k. refl)
+data_opened_goes_on l h q sign.CloseParen b m is = datum_goes_on l _ h (g.object (g.empty_object q b)) sign.CloseParen b (v.empty_object_end q) m is (λ k. refl)
 data_opened_goes_on l h q sign.OpenBracket b m is = cc
 data_opened_goes_on l h q sign.CloseBracket b m is = cc
 data_opened_goes_on l h q sign.Bar b m is = along l _ _ _ _ m is (record { law = λ k. refl })
@@ -436,7 +440,7 @@ object_goes_on : (l : Limits) (h : Contents) (q d : Spot) (sl : g.Slots) (d2 b :
     GoesOn l (Moves.before l (Moves.shut h q d sl d2)) sign.CloseParen b m
 object_goes_on l (undecided h w e) q d sl d2 b m is =
     along l _ _ _ _ m is (record {
-      law = λ k. ap (λ y. p.lists l h (s.slot_name l w (λ t. s.mark l Equals e quiet (write l sign.OpenParen q opening (write l sign.Bar d quiet y))) (scope_of l h)))
+      law = λ k. ap (λ y. p.lists l h (s.slot_name l w (λ t. s.mark l Equals e quiet (write l sign.OpenParen q (s.opening_item q) (write l sign.Bar d quiet y))) (scope_of l h)))
           (sym (slots_settle l sl (λ t. write l sign.Bar d2 quiet (write l sign.CloseParen b (v.object_end q t) k)) (scope either)));
     })
 object_goes_on l (coded h x e) q d sl d2 b m is = cc
@@ -580,7 +584,7 @@ method_goes_on l (undecided h w e) f x b m is = done_goes_on l _ h (g.member (g.
 method_goes_on l (coded (listed h) y e) f x b m is = done_goes_on l _ h (g.member (g.coded (g.method y e f))) Moves.stay (λ k. coded_says l (listed h) y e f k) x b m is
 method_goes_on l (coded lone y e) f v.period b m is = along l _ _ _ _ m is (record { law = λ k. refl })
 method_goes_on l (coded lone y e) f v.bar b m is = cc
-method_goes_on l (coded lone y e) f v.end b m is = along l _ _ _ _ m is (record { law = λ k. coded_says l lone y e f (write l sign.End b quiet k) })
+method_goes_on l (coded lone y e) f v.end b m is = along l _ _ _ _ m is (record { law = λ k. coded_says l lone y e f (placing (s.method_items (g.method y e f)) (write l sign.End b quiet k)) })
 
 pub method_behind_goes_on : (l : Limits) (h : Contents) (f : g.Method) (x : Symbol) (b : Spot) (m : Moves.Move) → v.behind_move l h f x b ≡ Some m → GoesOn l (Moves.before l (Moves.behind h f)) x b m
 method_behind_goes_on l h f (sign.Integer z) b m is = cc
@@ -625,5 +629,5 @@ lone_stopped_goes_on l y' e f' d sign.CloseBracket b m is = cc
 lone_stopped_goes_on l y' e f' d sign.Bar b m is = cc
 lone_stopped_goes_on l y' e f' d sign.Period b m is = cc
 lone_stopped_goes_on l y' e f' d sign.Caret b m is = cc
-lone_stopped_goes_on l y' e f' d sign.End b m is = along l _ _ _ _ m is (record { law = λ k. coded_says l lone y' e f' (write l sign.Period d quiet (write l sign.End b quiet k)) })
+lone_stopped_goes_on l y' e f' d sign.End b m is = along l _ _ _ _ m is (record { law = λ k. coded_says l lone y' e f' (placing (s.method_items (g.method y' e f')) (write l sign.Period d quiet (write l sign.End b quiet k))) })
 lone_stopped_goes_on l y' e f' d (sign.Bad z) b m is = cc

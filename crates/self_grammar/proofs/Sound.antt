@@ -10,6 +10,7 @@ use Rattle.self_grammar.specs.declared.signs.Role.{Role}
 use Rattle.self_grammar.specs.declared.signs.Role.TheVariants.{Equals, Arrow, Star, Other}
 use Rattle.self_grammar.specs.declared.signs.Symbol.{Symbol}
 use Rattle.self_grammar.specs.declared.signs.Symbol.TheVariants as sign
+use Rattle.self_grammar.specs.declared.pieces.TextNode.TheVariants as nodes
 use Rattle.self_grammar.specs.Grammar as g
 use Rattle.self_grammar.specs.Counts.{Limits, Mark, Context, Event, Writer, write}
 use Rattle.self_grammar.specs.Counts
@@ -46,7 +47,7 @@ moving_goes_on l said x b pre e (Some q) m is h = along l said x b (record { pre
 end_goes_on : (l : Limits) (said : Writer → List Mark) (e : Moves.End) (pre : Context → Context) → ((k : Writer) → said (λ c. k (pre c)) ≡ Moves.end_said l e k) →
     (x : Moves.Stop) (b : Spot) (m : Moves.Move) → Moves.end_move e pre x b ≡ Some m → GoesOn l said (Moves.stop_symbol x) b m
 end_goes_on l said (Moves.at_statement h ss e) pre says Moves.period b m is =
-    along l said sign.Period b _ m is (record { law = λ k. says (write l sign.Period b Counts.quiet (λ d. k (Moves.owe (Counts.node b 1 0) d))) })
+    along l said sign.Period b _ m is (record { law = λ k. says (write l sign.Period b Counts.quiet (λ d. k (Moves.owe (Counts.node b nodes.Drop) d))) })
 end_goes_on l said (Moves.at_statement h ss e) pre says Moves.paren b m is =
     moving_goes_on l said sign.CloseParen b pre (s.ending (g.full (g.code ss None e None)) b) (Moves.body_end h (g.code ss None e None) b Moves.paren) m is
     (λ q same k. says (write l sign.CloseParen b (s.ending (g.full (g.code ss None e None)) b) k) ∙ body_goes_on l h (g.code ss None e None) b Moves.paren q same k)
@@ -195,7 +196,7 @@ operator_goes_on l (right h y q us) u o r b m is =
     let name = is_equal y o (both_first (y == o) (Moves.same_role q r) t) in
     let role = role_equal q r (both_second (y == o) (Moves.same_role q r) t) in
     record {
-      law = λ k. ap (λ z. p.said l h (s.operands l y q us (s.unary l u (λ c. write l z b Counts.quiet k (Moves.owe (s.operator_node us) c)))))
+      law = λ k. ap (λ z. p.said l h (s.operands l y q us (s.unary l u (λ c. write l z b Counts.quiet k (Moves.owe (s.operator_node y us) c)))))
           (ap (λ z. sign.Operator z r) (sym name) ∙ ap (λ z. sign.Operator y z) (sym role));
     })
 
