@@ -1,7 +1,7 @@
 -- What the items of a text build, one after the other: objects, each with a list of slots of its own, and bodies.
 -- After the Self Handbook, "Objects and slots"; that names are followed from the lobby, what numbers objects and bodies
 -- have, and what is refused are this project's own rules.
-use Rattle.std.specs.Prelude.{ℕ, ◌+◌, ◌-◌, zero, suc, ℤ, Bool, true, false, ◌==◌, ◌&&◌, not, nat_eq, if◌then◌else◌, Option, None, Some, option_map, Result, Ok, Err, List, [], ◌∷◌, ◌++◌, length, map, slice_get, slice_set, slice_range, codes}
+use Rattle.std.specs.Prelude.{ℕ, ◌+◌, ◌-◌, zero, suc, ℤ, Bool, true, false, ◌==◌, ◌&&◌, not, nat_eq, nat_le, if◌then◌else◌, Option, None, Some, option_map, Result, Ok, Err, List, [], ◌∷◌, ◌++◌, length, map, slice_get, slice_set, slice_range, codes}
 use Rattle.std.specs.List.{list_any}
 use Rattle.std.specs.Cmp.Lexicographic.{pointwise}
 use Rattle.self_terms.specs.declared.nodes.Node.{Node}
@@ -85,9 +85,23 @@ pub record Loading : Type 0 where
   pub waiting : List ℕ
   pub size : ℕ
 
+-- `lobby`, with which a path may begin, and the names of the core objects in their order
+abbrev pub lobby_text : List ℕ
+lobby_text = codes "lobby"
+
+abbrev pub nil_text : List ℕ
+nil_text = codes "nil"
+
+abbrev pub core_names : List (List ℕ)
+core_names = nil_text ∷ codes "true" ∷ codes "false" ∷ codes "integerTraits" ∷ codes "stringTraits" ∷ codes "vectorTraits" ∷ codes "blockTraits" ∷ []
+
+abbrev pub with_texts : List (List ℕ) → List (List ℕ) → List (List ℕ)
+with_texts names [] = names
+with_texts names (t ∷ ts) = with_texts (with_text names t) ts
+
 -- before the first item: the lobby is open, and counts as an object
 abbrev pub begun : List (List ℕ) → Loading
-begun names = record { names = names; things = plain [] ∷ []; bodies = []; around = in_object 0 ∷ []; held = nothing; waiting = []; size = 1 }
+begun names = record { names = with_texts names (lobby_text ∷ core_names); things = plain [] ∷ []; bodies = []; around = in_object 0 ∷ []; held = nothing; waiting = []; size = 1 }
 
 -- Why a world isn't built: a name of a path that can't be followed, or a parent slot that holds no object, at its place.
 pub data Refusal : Type 0 where
@@ -150,12 +164,6 @@ own_data (Some (string t)) n = None
 
 abbrev pub data_of : Loading → ℕ → ℕ → Option Value
 data_of s o n = own_data (slice_get s.things o) n
-
-abbrev pub lobby_text : List ℕ
-lobby_text = codes "lobby"
-
-abbrev pub nil_text : List ℕ
-nil_text = codes "nil"
 
 -- The first name of a path is `lobby`, or names data of the lobby.
 abbrev pub root : Loading → ℕ → Option Value
@@ -226,9 +234,13 @@ closed (in_body b ∷ outer) h = (outer, body b)
 abbrev pub with_closed : Loading → Loading
 with_closed s = record s { around = (closed s.around s.held).0; held = (closed s.around s.held).1 }
 
+-- the bytes of a text from one place up to another; a text that was read has them
+abbrev pub between : List ℕ → ℕ → ℕ → List ℕ
+between bytes start end = if nat_le start end && nat_le end (length bytes) then slice_range bytes start end else []
+
 -- a string gets the next object's number
 abbrev pub with_string : List ℕ → ℕ → ℕ → Loading → Loading
-with_string bytes start end s = record s { things = s.things ++ string (unescaped (slice_range bytes start end)) ∷ [] }
+with_string bytes start end s = record s { things = s.things ++ string (unescaped (between bytes start end)) ∷ [] }
 
 -- Slots.
 

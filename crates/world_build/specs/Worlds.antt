@@ -3,12 +3,8 @@ use Rattle.std.specs.Prelude.{ℕ, ◌+◌, ◌-◌, ℤ, Bool, Option, None, So
 use Rattle.self_terms.specs.declared.values.Value as v
 use Rattle.self_terms.specs.declared.values.Value.TheVariants as values
 use Rattle.self_grammar.specs.declared.pieces.Item.{Item}
-use Rattle.world_build.specs.Loading.{Value, integer, object, nil, Content, constant, assignable, assignment, parent, method, Slot, Thing, plain, string, Local, Body, Loading, begun, Refusal, number_of, slot_of}
+use Rattle.world_build.specs.Loading.{Value, integer, object, nil, Content, constant, assignable, assignment, parent, method, Slot, Thing, plain, string, Local, Body, Loading, begun, Refusal, number_of, slot_of, core_names}
 use Rattle.world_build.specs.Nodes.{loaded}
-
--- The names of the core objects, in their order.
-abbrev pub core_names : List (List ℕ)
-core_names = codes "nil" ∷ codes "true" ∷ codes "false" ∷ codes "integerTraits" ∷ codes "stringTraits" ∷ codes "vectorTraits" ∷ codes "blockTraits" ∷ []
 
 -- The strings that every world has behind those of its text: six names of errors, nineteen of primitives, and one more.
 abbrev pub fixed_strings : List (List ℕ)
