@@ -1,3 +1,5 @@
-pub mod Loading
-pub mod Nodes
-pub mod Worlds
+pub mod Names
+pub mod Known
+pub mod Slots
+pub mod Things
+pub mod Bodies
