@@ -9,6 +9,7 @@ pub mod Moves
 pub mod Only
 pub mod Places
 pub mod Reading
+pub mod Refusals
 pub mod Refused
 pub mod RefusedEdit
 pub mod Rows
