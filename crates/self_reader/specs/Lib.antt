@@ -1,6 +1,2 @@
-pub mod Counts
-pub mod Grammar
-pub mod Nodes
-pub mod Refusal
-pub mod Scopes
-pub mod Spelling
+pub mod Owners
+pub mod Turns

@@ -71,6 +71,13 @@ impl Names {
         &texts[name.0 as usize - 1]
     }
 
+    /// How many texts were given a name.
+    pub fn len(&self) -> usize
+        ensures { result ≡ length self.now }
+    {
+        self.texts.len()
+    }
+
     /// No text has two names.
     pub fn has_each_once(&self)
         ensures { HasEachOnce self.now }

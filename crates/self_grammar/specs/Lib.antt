@@ -1,0 +1,6 @@
+pub mod Counts
+pub mod Grammar
+pub mod Parts
+pub mod Refusal
+pub mod Scopes
+pub mod Spelling
