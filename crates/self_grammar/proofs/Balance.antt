@@ -30,7 +30,7 @@ use Rattle.self_grammar.specs.Spelling.{items_of}
 use Rattle.self_grammar.specs.Refusal.{AreSound, signs, IsText}
 use Rattle.self_grammar.proofs.Places.{block_opening}
 use Rattle.self_grammar.proofs.SlotMoves as v'
-use Rattle.self_grammar.specs.Balance.{Entry, fresh, ends, admits, behind, only_if, bound, walked, root, OfSymbol, OfSigns, OfNode, OfItems}
+use Rattle.self_grammar.specs.Balance.{Entry, fresh, ends, admits, behind, only_if, bound, walked, OfSymbol, OfSigns, OfNode, OfItems}
 
 -- Lists and tests.
 
@@ -777,30 +777,30 @@ module _ (l : Limits) (P : ℤ → Type 0) (final : List Entry) where
   finish_good : (p : Spot) (v w : ℕ) (hs : List Held) → Good (Clear P v w hs final) (s.finish l p)
   finish_good p v w hs = plain_good v w hs final sign.End p quiet (λ c. []) refl refl refl (λ c s a sound. record { whole = ap Some a.stack; ints = λ h. tt })
 
-first_clear : (P : ℤ → Type 0) (size : ℕ) → Clear P 0 0 [] root (s.at_first size) root
+first_clear : (P : ℤ → Type 0) (size : ℕ) → Clear P 0 0 [] [] (s.at_first size) []
 first_clear P size = record { stack = refl; pending = refl; nodes = refl; due = refl; around = refl; still = λ l es rest. refl; ready_of = tt }
 
-world_walks : (l : Limits) (P : ℤ → Type 0) (x : g.World) → AreSound (s.world l x) → Walks l P root root (s.world l x)
+world_walks : (l : Limits) (P : ℤ → Type 0) (x : g.World) → AreSound (s.world l x) → Walks l P [] [] (s.world l x)
 world_walks l P (g.world_ended ms p) sound =
-    members_before_good l P root ms 0 0 [] root (λ u. s.finish l p) (λ u. finish_good l P root p 0 0 []) (scope holder) (s.at_first 1) root (first_clear P 1) sound
+    members_before_good l P [] ms 0 0 [] [] (λ u. s.finish l p) (λ u. finish_good l P [] p 0 0 []) (scope holder) (s.at_first 1) [] (first_clear P 1) sound
 world_walks l P (g.world_last ms m p) sound =
-    members_before_good l P root ms 0 0 [] root (s.member l m (λ u. placing (s.member_items m) (s.finish l p)))
-    (member_good l P root m 0 0 [] root (λ u. placing (s.member_items m) (s.finish l p))
-    (λ u. placing_good l P root 0 0 [] root (s.member_items m) (s.finish l p) (member_still m) (member_of P m) (finish_good l P root p 0 0 [])))
-    (scope holder) (s.at_first 1) root (first_clear P 1) sound
+    members_before_good l P [] ms 0 0 [] [] (s.member l m (λ u. placing (s.member_items m) (s.finish l p)))
+    (member_good l P [] m 0 0 [] [] (λ u. placing (s.member_items m) (s.finish l p))
+    (λ u. placing_good l P [] 0 0 [] [] (s.member_items m) (s.finish l p) (member_still m) (member_of P m) (finish_good l P [] p 0 0 [])))
+    (scope holder) (s.at_first 1) [] (first_clear P 1) sound
 
-edit_end : (l : Limits) (P : ℤ → Type 0) (q : Option Spot) (p : Spot) → Good l P root (Clear P 0 0 [] root) (s.stopped l q (s.finish l p))
-edit_end l P None p = finish_good l P root p 0 0 []
-edit_end l P (Some b) p = plain_good l P root 0 0 [] root sign.Period b quiet (s.finish l p) refl refl refl (finish_good l P root p 0 0 [])
+edit_end : (l : Limits) (P : ℤ → Type 0) (q : Option Spot) (p : Spot) → Good l P [] (Clear P 0 0 [] []) (s.stopped l q (s.finish l p))
+edit_end l P None p = finish_good l P [] p 0 0 []
+edit_end l P (Some b) p = plain_good l P [] 0 0 [] [] sign.Period b quiet (s.finish l p) refl refl refl (finish_good l P [] p 0 0 [])
 
-edit_walks : (l : Limits) (P : ℤ → Type 0) (x : g.Edit) → AreSound (s.edit l x) → Walks l P root root (s.edit l x)
+edit_walks : (l : Limits) (P : ℤ → Type 0) (x : g.Edit) → AreSound (s.edit l x) → Walks l P [] [] (s.edit l x)
 edit_walks l P (g.edit m q p) sound =
-    method_slot_good l P root m 0 0 [] root (λ u. placing (s.method_items m) (s.stopped l q (s.finish l p)))
-    (λ u. placing_good l P root 0 0 [] root (s.method_items m) (s.stopped l q (s.finish l p)) (method_still m) (method_of P m) (edit_end l P q p))
-    (scope holder) (s.at_first 0) root (first_clear P 0) sound
+    method_slot_good l P [] m 0 0 [] [] (λ u. placing (s.method_items m) (s.stopped l q (s.finish l p)))
+    (λ u. placing_good l P [] 0 0 [] [] (s.method_items m) (s.stopped l q (s.finish l p)) (method_still m) (method_of P m) (edit_end l P q p))
+    (scope holder) (s.at_first 0) [] (first_clear P 0) sound
 
 -- The bodies of a world with nothing wrong are balanced,
-pub world_balanced : (l : Limits) (given : List Sign) (t : g.World) → IsText (s.world l) given t → walked l root (items_of (s.world l t)) ≡ Some root
+pub world_balanced : (l : Limits) (given : List Sign) (t : g.World) → IsText (s.world l) given t → walked l [] (items_of (s.world l t)) ≡ Some []
 world_balanced l given t h = (world_walks l (λ z. Unit {0}) t h.1).whole
 
 -- and its nodes have integers of its signs alone.
@@ -808,7 +808,7 @@ pub world_integers : (l : Limits) (P : ℤ → Type 0) (given : List Sign) (t : 
 world_integers l P given t h of = (world_walks l P t h.1).ints (subst (λ ss. OfSigns P ss) (sym h.0) of)
 
 -- The same of an edit.
-pub edit_balanced : (l : Limits) (given : List Sign) (t : g.Edit) → IsText (s.edit l) given t → walked l root (items_of (s.edit l t)) ≡ Some root
+pub edit_balanced : (l : Limits) (given : List Sign) (t : g.Edit) → IsText (s.edit l) given t → walked l [] (items_of (s.edit l t)) ≡ Some []
 edit_balanced l given t h = (edit_walks l (λ z. Unit {0}) t h.1).whole
 
 pub edit_integers : (l : Limits) (P : ℤ → Type 0) (given : List Sign) (t : g.Edit) → IsText (s.edit l) given t → OfSigns P given → OfItems P (items_of (s.edit l t))

@@ -37,7 +37,7 @@ abbrev pub only_if : Bool → List Entry → Option (List Entry)
 only_if true es = Some es
 only_if false es = None
 
--- What is open behind an item, the innermost first; none where the item breaks a rule.
+-- What is open behind an item, the innermost first, without the lobby; none where the item breaks a rule.
 abbrev pub walked_item : Limits → Item → List Entry → Option (List Entry)
 walked_item l (items.Node m) [] = None
 walked_item l (items.Node m) (e ∷ es) = only_if (admits l e m.node) (behind e m.node ∷ es)
@@ -62,10 +62,6 @@ bound (Some es) f = f es
 abbrev pub walked : Limits → List Entry → List Item → Option (List Entry)
 walked l es [] = Some es
 walked l es (i ∷ is) = bound (walked_item l i es) (λ ds. walked l ds is)
-
--- before a text: the lobby, or what an edit changes
-abbrev pub root : List Entry
-root = fresh ∷ []
 
 -- P holds of the integer of a sign,
 abbrev pub OfSymbol : (ℤ → Type 0) → Symbol → Type 0
