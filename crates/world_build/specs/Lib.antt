@@ -1,3 +1,4 @@
 pub mod Loading
 pub mod Nodes
+pub mod Soundness
 pub mod Worlds
