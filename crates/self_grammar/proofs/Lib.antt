@@ -1,3 +1,4 @@
+pub mod Balance
 pub mod Bases
 pub mod Closed
 pub mod Complete

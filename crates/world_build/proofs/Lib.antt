@@ -1,2 +1,5 @@
 pub mod NameLemmas
 pub mod SlotLemmas
+pub mod Growing
+pub mod Runnable
+pub mod Standing

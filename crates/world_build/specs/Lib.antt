@@ -3,3 +3,7 @@ pub mod Known
 pub mod Slots
 pub mod Things
 pub mod Bodies
+pub mod Loading
+pub mod Nodes
+pub mod Soundness
+pub mod Worlds
