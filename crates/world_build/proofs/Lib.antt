@@ -1,5 +1,0 @@
-pub mod NameLemmas
-pub mod SlotLemmas
-pub mod Growing
-pub mod Runnable
-pub mod Standing

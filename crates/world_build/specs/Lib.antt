@@ -1,9 +1,0 @@
-pub mod Names
-pub mod Known
-pub mod Slots
-pub mod Things
-pub mod Bodies
-pub mod Loading
-pub mod Nodes
-pub mod Soundness
-pub mod Worlds
