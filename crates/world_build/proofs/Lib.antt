@@ -1,0 +1,14 @@
+pub mod Growing
+pub mod Standing
+pub mod Runnable
+pub mod NameLemmas
+pub mod SlotLemmas
+pub mod LocalLemmas
+pub mod ThingLemmas
+pub mod Fronts
+pub mod OpenLemmas
+pub mod KindLemmas
+pub mod Room
+pub mod ItemLemmas
+pub mod CoreLemmas
+pub mod Rows

@@ -1,0 +1,49 @@
+-- Slots as the entries of a map that keeps their order.
+use Rattle.std.proofs.Common.{◌≡◌, ℕ, true, false, List, [], ◌∷◌, ◌++◌, map, inl, inr, refl, ap, subst, ◌∙◌}
+use Rattle.std.specs.Prelude.{nat_eq, Option, Some, None, is_some}
+use Rattle.std.specs.List.{list_any}
+use Rattle.std.specs.Map.{lookup}
+use Rattle.std.proofs.lemmas.Bool.{cases_Bool, true≢false}
+use Rattle.world_build.specs.declared.slots.Content.{Content}
+use Rattle.world_build.specs.declared.slots.Slot.{Slot}
+use Rattle.world_build.specs.Slots.{slot_in, is_named, slot_of, add_slot}
+
+abbrev pub Entries : Type 0
+Entries = List (ℕ × Content)
+
+pub slot_found : (n : ℕ) (es : Entries) → slot_of n (map slot_in es) ≡ lookup (nat_eq n) es
+slot_found n [] = refl
+slot_found n (e ∷ es) = elim (cases_Bool (nat_eq n e.0)) [
+  | inl h ↦ rw h refl
+  | inr h ↦ rw h (slot_found n es)
+]
+
+slot_any : (n : ℕ) (es : Entries) → list_any (is_named n) (map slot_in es) ≡ is_some (lookup (nat_eq n) es)
+slot_any n [] = refl
+slot_any n (e ∷ es) = elim (cases_Bool (nat_eq n e.0)) [
+  | inl h ↦ rw h refl
+  | inr h ↦ rw h (slot_any n es)
+]
+
+slots_append : (es : Entries) (e : ℕ × Content) → map slot_in (es ++ e ∷ []) ≡ map slot_in es ++ slot_in e ∷ []
+slots_append [] e = refl
+slots_append (x ∷ es) e = ap (λ z. slot_in x ∷ z) (slots_append es e)
+
+none_of : (o : Option Content) → is_some o ≡ false → o ≡ None
+none_of None e = refl
+none_of (Some x) e = absurd (true≢false e)
+
+-- a slot that is there stays alone
+pub slot_there : (slots : List Slot) (es : Entries) (x : Slot) → map slot_in es ≡ slots → is_some (lookup (nat_eq x.name) es) ≡ true → slots ≡ add_slot slots x
+slot_there slots es x e t =
+    let any : list_any (is_named x.name) slots ≡ true = subst (λ (z : List Slot). list_any (is_named x.name) z ≡ true) e (slot_any x.name es ∙ t) in
+    rw any refl
+
+pub slot_missing : (es : Entries) (x : Slot) → is_some (lookup (nat_eq x.name) es) ≡ false → lookup (nat_eq x.name) es ≡ None
+slot_missing es x t = none_of (lookup (nat_eq x.name) es) t
+
+-- a new one goes last
+pub slot_added : (slots : List Slot) (es new : Entries) (x : Slot) → map slot_in es ≡ slots → is_some (lookup (nat_eq x.name) es) ≡ false → new ≡ es ++ (x.name, x.content) ∷ [] → map slot_in new ≡ add_slot slots x
+slot_added slots es new x e t f =
+    let any : list_any (is_named x.name) slots ≡ false = subst (λ (z : List Slot). list_any (is_named x.name) z ≡ false) e (slot_any x.name es ∙ t) in
+    rw any (ap (map slot_in) f ∙ slots_append es (x.name, x.content) ∙ ap (λ (z : List Slot). z ++ x ∷ []) e)

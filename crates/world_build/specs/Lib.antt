@@ -1,0 +1,11 @@
+pub mod Names
+pub mod Known
+pub mod Slots
+pub mod Things
+pub mod Bodies
+pub mod Loading
+pub mod Nodes
+pub mod Soundness
+pub mod Steps
+pub mod Worlds
+pub mod Kinds

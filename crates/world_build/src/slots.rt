@@ -1,0 +1,87 @@
+// The slots of an object.
+ghost use Rattle.std.specs.Prelude.{◌≡◌, [], OnOk};
+ghost use Rattle.world_build.specs.Slots.{slot_of, add_slot, data_in};
+
+use crate::values::Value;
+use indexmap::IndexMap;
+use std::alloc::{AllocError, Global};
+use std::marker::Model;
+
+/// What a slot holds: constant data, assignable data, the assignment slot of assignable data, a parent, a method's body by
+/// its number.
+#[derive(Clone, Copy, Debug, PartialEq, Eq)]
+pub enum Content {
+    Constant(Value),
+    Assignable(Value),
+    Assignment,
+    Parent(Value),
+    Method(u32),
+}
+
+/// A slot, by the number of its name.
+#[derive(Clone, Copy, Debug, PartialEq, Eq)]
+pub struct Slot {
+    pub name: u32,
+    pub content: Content,
+}
+
+/// The slots of an object in order, each name once.
+#[derive(Drop)]
+pub struct Slots {
+    slots: IndexMap<u32, Content>,
+}
+
+impl Model for Slots {
+    ghost use Rattle.std.specs.Prelude.{List, map};
+    ghost use Rattle.world_build.specs.declared.slots.Slot.{Slot};
+    ghost use Rattle.world_build.specs.Slots.{slot_in};
+
+    ghost Value = { List Slot };
+
+    ghost view = { λ s. map slot_in s.slots.entries };
+}
+
+impl Slots {
+    /// No slots. Takes no memory.
+    pub(crate) fn open(alloc: Global) -> Slots
+        ensures { result ≡ [] }
+    {
+        Slots {
+            slots: IndexMap::new(alloc),
+        }
+    }
+
+    /// What the slot of a name holds.
+    pub fn content(&self, name: u32) -> Option<Content>
+        ensures { result ≡ slot_of name self.now }
+    {
+        self.slots.get(&name).copied()
+    }
+
+    /// One slot more behind the others, where there is none of its name.
+    pub(crate) fn add(&mut self, slot: Slot) -> Result<(), AllocError>
+        ensures { OnOk result (self.new ≡ add_slot self.old slot) }
+    {
+        if self.slots.contains_key(&slot.name) {
+            return Ok(());
+        }
+        let Ok(_) = self.slots.insert(slot.name, slot.content) else {
+            return Err(AllocError);
+        };
+        Ok(())
+    }
+}
+
+// A path goes through data and parents, not through methods and assignment slots.
+pub(crate) fn data_in(content: Option<Content>) -> Option<Value>
+    ensures { result ≡ data_in content }
+{
+    match content {
+        None => None,
+        Some(Content::Constant(value)) => Some(value),
+        Some(Content::Assignable(value)) => Some(value),
+        Some(Content::Assignment) => None,
+        Some(Content::Parent(value)) => Some(value),
+        Some(Content::Method(_)) => None,
+    }
+}
