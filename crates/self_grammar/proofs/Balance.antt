@@ -34,15 +34,15 @@ use Rattle.self_grammar.specs.Balance.{Entry, fresh, ends, admits, behind, only_
 
 -- Lists and tests.
 
-front_empty : {X : Type 0} (xs ys : List X) → xs ++ ys ≡ [] → xs ≡ []
+pub front_empty : {X : Type 0} (xs ys : List X) → xs ++ ys ≡ [] → xs ≡ []
 front_empty [] ys e = refl
 front_empty (x ∷ xs) ys e = cc
 
-back_empty : {X : Type 0} (xs ys : List X) → xs ++ ys ≡ [] → ys ≡ []
+pub back_empty : {X : Type 0} (xs ys : List X) → xs ++ ys ≡ [] → ys ≡ []
 back_empty [] ys e = e
 back_empty (x ∷ xs) ys e = cc
 
-none_first : (rs : List ReadRefusal) → first_of rs ≡ None → rs ≡ []
+pub none_first : (rs : List ReadRefusal) → first_of rs ≡ None → rs ≡ []
 none_first [] e = refl
 none_first (r ∷ rs) e = absurd (some r (first_of rs) e)
   where
@@ -54,16 +54,16 @@ none_first (r ∷ rs) e = absurd (some r (first_of rs) e)
     some r None e = cc
     some r (Some q) e = chosen r q _ e
 
-unplaced : (p : Spot) (bs : List Breach) → map (placed p) bs ≡ [] → bs ≡ []
+pub unplaced : (p : Spot) (bs : List Breach) → map (placed p) bs ≡ [] → bs ≡ []
 unplaced p [] e = refl
 unplaced p (b ∷ bs) e = cc
 
 -- what passed a test, and what was said then
-passes : {X : Type 0} (b : Bool) (r : List X) (x : X) → (if b then r else x ∷ []) ≡ [] → (b ≡ true) × (r ≡ [])
+pub passes : {X : Type 0} (b : Bool) (r : List X) (x : X) → (if b then r else x ∷ []) ≡ [] → (b ≡ true) × (r ≡ [])
 passes true r x e = (refl, e)
 passes false r x e = cc
 
-both : (a b : Bool) → (a && b) ≡ true → (a ≡ true) × (b ≡ true)
+pub both : (a b : Bool) → (a && b) ≡ true → (a ≡ true) × (b ≡ true)
 both true true e = (refl, refl)
 both true false e = cc
 both false b e = cc

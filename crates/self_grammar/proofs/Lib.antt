@@ -3,6 +3,7 @@ pub mod Bases
 pub mod Closed
 pub mod Complete
 pub mod Exact
+pub mod Few
 pub mod Found
 pub mod LocalMoves
 pub mod LocalSound
