@@ -153,38 +153,58 @@ fn refuses_other_words(rt: HostRuntime) -> Result<(), Fail> {
     Ok(())
 }
 
+// A call in which the call for a file with this number fails: its status, how many calls the files had, and the faults of
+// the three names.
+fn failed_at(
+    alloc: Global,
+    words: &[&str],
+    world: &[u8],
+    number: u64,
+) -> Result<[u64; 5], AllocError> {
+    let texts = texts_of(alloc, words)?;
+    let mut files = files_of(alloc, world, number)?;
+    let mut source = MemSource::new(b"spawn main\nrun 9\n".to_vec(alloc)?, Vec::new(alloc));
+    let mut sink = MemSink::new(alloc, 4096, Vec::new(alloc))?;
+    let ended = selfdb(alloc, &texts, &mut files, &mut source, &mut sink);
+    Ok([
+        ended.status as u64,
+        files.calls(),
+        files.faults_of("add.self"),
+        files.faults_of("other.self"),
+        files.faults_of("none.self"),
+    ])
+}
+
 // Each call for a file, failed by its number, raises the faults of the world that the words name, and of no other file.
+// Reading this world takes so many calls: one for each 4,096 bytes of it begun, and one for its end.
+fn reads_alone(
+    alloc: Global,
+    words: &[&str],
+    world: &[u8],
+    reads: u64,
+) -> Result<bool, AllocError> {
+    let written = call(alloc, words, world, b"spawn main\nrun 9\n", 0, 0)?;
+    if written.2 != reads {
+        return Ok(false);
+    }
+    for before in 0..reads {
+        let number = before + 1;
+        let failed = failed_at(alloc, words, world, number)?;
+        if failed.as_slice() != [4, number, 1, 0, 0].as_slice() {
+            return Ok(false);
+        }
+    }
+    Ok(true)
+}
+
 #[test]
 fn reads_the_named_world_alone(rt: HostRuntime) -> Result<(), Fail> {
     let alloc = rt.alloc();
-    let script = b"spawn main\nrun 9\n";
-    // The world, and how many calls it takes to read it: one for each 4,096 bytes of it begun, and one for its end.
-    let rows: [(Vec<u8>, u64); 3] = [
-        (world_of(alloc, "main = ( 3 _IntAdd: 4 ).~")?, 2),
-        (Vec::new(alloc), 1),
-        (vec![in alloc; b'#'; 10000]?, 4),
-    ];
-    for (world, reads) in &rows {
-        let written = call(alloc, RUN, world, script, 0, 0)?;
-        assert_eq!(rt; written.2, *reads);
-        for number in 1..*reads + 1 {
-            let mut files = files_of(alloc, world, number)?;
-            let mut source = MemSource::new(script.to_vec(alloc)?, Vec::new(alloc));
-            let mut sink = MemSink::new(alloc, 4096, Vec::new(alloc))?;
-            let ended = selfdb(
-                alloc,
-                &texts_of(alloc, RUN)?,
-                &mut files,
-                &mut source,
-                &mut sink,
-            );
-            assert_eq!(rt; ended.status, 4);
-            assert_eq!(rt; files.calls(), number);
-            assert_eq!(rt; files.faults_of("add.self"), 1);
-            assert_eq!(rt; files.faults_of("other.self"), 0);
-            assert_eq!(rt; files.faults_of("none.self"), 0);
-        }
-    }
+    let sum = world_of(alloc, "main = ( 3 _IntAdd: 4 ).~")?;
+    let long = vec![in alloc; b'#'; 10000]?;
+    assert!(rt; reads_alone(alloc, RUN, &sum, 2)?);
+    assert!(rt; reads_alone(alloc, RUN, b"", 1)?);
+    assert!(rt; reads_alone(alloc, RUN, &long, 4)?);
     Ok(())
 }
 
