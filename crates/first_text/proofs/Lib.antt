@@ -2,4 +2,3 @@ pub mod Numbers
 pub mod Texts
 pub mod Decimals
 pub mod Scripts
-pub mod Worlds

@@ -4,4 +4,8 @@
 #![tactic(auto)]
 
 #[cfg(test)]
+mod core_text;
+#[cfg(test)]
+mod refusals;
+#[cfg(test)]
 mod tests;

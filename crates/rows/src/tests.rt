@@ -2,7 +2,8 @@
 //
 // A table is one text: a line for each row, whose fields `;` parts. In a field `~` stands for a newline.
 
-use first_text::CORE_TEXT;
+use crate::core_text::CORE_TEXT;
+use crate::refusals::REFUSALS;
 use io_ports::{MemFiles, MemSink, MemSource, NamedFile};
 use self_debugger::selfdb;
 use std::alloc::{AllocError, Global};
@@ -12,6 +13,8 @@ use std::test::Fail;
 type Written = (Vec<u8>, u8, u64);
 
 const RUN: &[&str] = &["run", "add.self"];
+
+const CHECK: &[&str] = &["check", "add.self"];
 
 // Worlds behind the core text, scripts, texts and statuses.
 const SUMS: &str = "\
@@ -27,17 +30,34 @@ main = ( 536870911 _IntAdd: 0 ).;spawn main~run 9~;activity 1~done 536870911 at 
 main = ( 536870911 _IntAdd: 1 ).;spawn main~run 2~;activity 1~stop at 2 line 10:20~;0
 main = ( 536870911 _IntAdd: 1 ).;spawn main~run 9~;activity 1~error overflowError at 2 line 10:20~;0";
 
+// The same of more methods `main`.
+const MAINS: &str = "\
+main = ( 3 ).~;spawn main~run 3~;activity 1~done 3 at 2~;0
+main = ( -3 _IntAdd: 4 ).~;spawn main~run 9~;activity 1~done 1 at 4~;0
+main = ( 3 _IntAdd: 4 ).~~;spawn main~run 9~;activity 1~done 7 at 4~;0
+main = ( 9 _IntSub: 4 _IntSub: 3 ).;spawn main~run 100~;activity 1~done 8 at 6~;0";
+
 const OTHERS: &str = "\
 main = ( 3 _IntAdd: 4 ).~;spawn main~run 03~;not built~;3
 main = ( 3 _IntAdd: 4 ).~;spawn main~run 1000000001~;not built~;3
 main = ( 3 _IntAdd: 4 ).~;spawn main~run 3~~;not built~;3
 main = ( 3 _IntAdd: 4 ).~;spawn main~run~;not built~;3
 main = ( 3 _IntAdd: 4 ).~;;not built~;3
-main = ( 3 ).~;spawn main~run 3~;not built~;2
-main = ( 536870912 _IntAdd: 1 ).~;spawn main~run 3~;not built~;2
-main = ( -3 _IntAdd: 4 ).~;;not built~;2
-main = ( 3 _IntAdd: 4 ).~~;;not built~;2
+x = 3.~;spawn main~run 3~;not built~;2
+main = 3.~;spawn main~run 3~;not built~;2
+main = ( 536870912 _IntAdd: 1 ).~;spawn main~run 3~;world refused IntTooWide at 10:10~;2
+x = zork.~;spawn main~run 3~;world refused NoSuchPath at 10:5~;2
+p* = 3.~;spawn main~run 3~;world refused ParentNotObject at 10:1~;2
 ;spawn main~run 3~;not built~;2";
+
+// Worlds behind the core text, and what a check says of them.
+const CHECKS: &str = "\
+main = ( 3 _IntAdd: 4 ).;ok 8 objects 11 bodies size 76~;0
+traits = ( | parent* = lobby.~point = ( | parent* = lobby. + p = ( | r | r: clone. r x: x + p x. r y: y + p y. r ).~\
+clone = ( _Clone ). show = ( x _IntPrint. y _IntPrint ) | ) | ).~point = ( | parent* = traits point. x <- 0. y <- 0 | ).~\
+main = ( | p. q | p: point clone. p x: 3. p y: 4. q: p + p. q show ).~;ok 11 objects 14 bodies size 137~;0
+x = zork.;world refused NoSuchPath at 10:5~;2
+p* = 3.;world refused ParentNotObject at 10:1~;2";
 
 // The bytes of a field.
 fn bytes_of(alloc: Global, field: &str) -> Result<Vec<u8>, AllocError> {
@@ -122,9 +142,49 @@ fn adds_two_integers(rt: HostRuntime) -> Result<(), Fail> {
 }
 
 #[test]
+fn runs_the_method_main(rt: HostRuntime) -> Result<(), Fail> {
+    for row in MAINS.split('\n') {
+        assert!(rt; agrees(rt.alloc(), row)?, "{row}");
+    }
+    Ok(())
+}
+
+#[test]
 fn refuses_other_texts(rt: HostRuntime) -> Result<(), Fail> {
     for row in OTHERS.split('\n') {
         assert!(rt; agrees(rt.alloc(), row)?, "{row}");
+    }
+    Ok(())
+}
+
+// No script is read for a check: its source would fail.
+#[test]
+fn checks_worlds(rt: HostRuntime) -> Result<(), Fail> {
+    for row in CHECKS.split('\n') {
+        let world = world_of(rt.alloc(), field(row, 0))?;
+        let text = bytes_of(rt.alloc(), field(row, 1))?;
+        let written = call(rt.alloc(), CHECK, &world, b"", 1, 0)?;
+        assert!(rt; written.0.as_slice() == text.as_slice(), "{row}");
+        assert!(rt;
+            field(row, 2).as_bytes() == [b'0' + written.1 % 10].as_slice(),
+            "{row}"
+        );
+        assert!(rt; written.2 == 2, "{row}");
+    }
+    Ok(())
+}
+
+#[test]
+fn refuses_other_worlds(rt: HostRuntime) -> Result<(), Fail> {
+    for row in REFUSALS.split('\n') {
+        let mut text = b"world refused ".to_vec(rt.alloc())?;
+        text.extend_from_slice(field(row, 1).as_bytes())?;
+        text.extend_from_slice(b"\n")?;
+        for words in [RUN, CHECK] {
+            let written = call(rt.alloc(), words, field(row, 0).as_bytes(), b"", 1, 0)?;
+            assert!(rt; written.0.as_slice() == text.as_slice(), "{row}");
+            assert!(rt; written.1 == 2, "{row}");
+        }
     }
     Ok(())
 }
@@ -141,7 +201,7 @@ fn refuses_other_words(rt: HostRuntime) -> Result<(), Fail> {
         (&["walk", "add.self"], usage),
         (&["drill", "4001"], usage),
         (&["drill", "4000"], "not built\n"),
-        (&["check", "add.self"], "not built\n"),
+        (&["check"], usage),
     ];
     for (words, text) in rows {
         let written = call(rt.alloc(), words, b"", b"", 0, 0)?;
@@ -202,9 +262,11 @@ fn reads_the_named_world_alone(rt: HostRuntime) -> Result<(), Fail> {
     let alloc = rt.alloc();
     let sum = world_of(alloc, "main = ( 3 _IntAdd: 4 ).~")?;
     let long = vec![in alloc; b'#'; 10000]?;
-    assert!(rt; reads_alone(alloc, RUN, &sum, 2)?);
-    assert!(rt; reads_alone(alloc, RUN, b"", 1)?);
-    assert!(rt; reads_alone(alloc, RUN, &long, 4)?);
+    for words in [RUN, CHECK] {
+        assert!(rt; reads_alone(alloc, words, &sum, 2)?);
+        assert!(rt; reads_alone(alloc, words, b"", 1)?);
+        assert!(rt; reads_alone(alloc, words, &long, 4)?);
+    }
     Ok(())
 }
 
@@ -214,8 +276,14 @@ fn refuses_long_texts(rt: HostRuntime) -> Result<(), Fail> {
     let written = call(rt.alloc(), RUN, &long, b"", 0, 0)?;
     assert_eq!(rt; written.0.as_slice(), b"world refused TooLong\n".as_slice());
     assert_eq!(rt; written.1, 2);
+    let written = call(rt.alloc(), CHECK, &long, b"", 0, 0)?;
+    assert_eq!(rt; written.0.as_slice(), b"world refused TooLong\n".as_slice());
+    // One operator, behind which the text ends.
     let written = call(rt.alloc(), RUN, &long[1..], b"", 0, 0)?;
-    assert_eq!(rt; written.0.as_slice(), b"not built\n".as_slice());
+    assert_eq!(rt;
+        written.0.as_slice(),
+        b"world refused BadSyntax at 1:1048577\n".as_slice()
+    );
     let world = world_of(rt.alloc(), "main = ( 3 _IntAdd: 4 ).\n")?;
     let written = call(rt.alloc(), RUN, &world, &long, 0, 0)?;
     assert_eq!(rt;
@@ -249,8 +317,13 @@ fn stops_where_a_device_fails(rt: HostRuntime) -> Result<(), Fail> {
     assert_eq!(rt; written.1, 0);
     let written = call(rt.alloc(), RUN, b"", script, 0, 1)?;
     assert_eq!(rt; written.1, 5);
-    let written = call(rt.alloc(), &["run", "none.self"], &world, script, 0, 0)?;
+    let written = call(rt.alloc(), CHECK, &world, script, 0, 1)?;
     assert!(rt; written.0.is_empty());
-    assert_eq!(rt; written.1, 4);
+    assert_eq!(rt; written.1, 5);
+    for words in [["run", "none.self"], ["check", "none.self"]] {
+        let written = call(rt.alloc(), &words, &world, script, 0, 0)?;
+        assert!(rt; written.0.is_empty());
+        assert_eq!(rt; written.1, 4);
+    }
     Ok(())
 }

@@ -1,4 +1,9 @@
 pub mod Limits
+pub mod ClosedSigns
+pub mod SmallSigns
+pub mod OneWorld
+pub mod Built
+pub mod Mains
 pub mod Cases
 pub mod OneJob
 pub mod OneAnswer

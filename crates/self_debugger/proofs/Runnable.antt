@@ -1,68 +1,120 @@
--- The body of an accepted world can be run.
-use Rattle.std.proofs.Common.{◌≡◌, ℕ, zero, suc, ◌+◌, ◌<◌, ◌≤◌, refl, ◌∙◌, ap, sym, subst, arith}
-use Rattle.std.specs.Prelude.{ℤ, pos, Some, true, List, length, slice_get}
+-- The body of an accepted world's method `main` can be run.
+use Rattle.std.specs.Prelude.{◌≡◌, ℕ, zero, suc, Bool, true, false, List, [], ◌∷◌, codes, refl}
+use Rattle.std.proofs.Common.{ap, sym, subst, ◌∙◌, arith}
 use Rattle.self_terms.specs.declared.nodes.Node.{Node}
 use Rattle.self_terms.specs.declared.nodes.Node.TheVariants as nodes
+use Rattle.self_tokens.specs.Tokens.{tokens}
 use Rattle.source_model.specs.State.{Body}
-use Rattle.first_text.specs.Numbers.{number}
-use Rattle.first_text.specs.FirstWorld.{sum_body}
-use Rattle.run_core.specs.Code.{depth, taken}
-use Rattle.run_core.specs.Standing.{IsSmall}
-use Rattle.run_core.specs.Plain.{IsRunnable, is_inner}
+use Rattle.run_core.specs.Code as code
+use Rattle.run_core.specs.Plain as plain
+use Rattle.run_core.specs.Plain.{IsRunnable}
+use Rattle.self_reader.specs.declared.texts.TheConstants.{LIMITS}
+use Rattle.self_reader.specs.Signs.{signs, names_after}
+use Rattle.self_reader.specs.Texts.{known}
+use Rattle.world_build.specs.declared.bodies.Body as built_body
+use Rattle.world_build.specs.Names.{number_of}
+use Rattle.world_build.specs.Soundness as sound
+use Rattle.world_build.specs.Worlds.{lobby_method}
+use Rattle.world_build.proofs.Runnable.{accepted_sound}
+use Rattle.self_debugger.specs.WorldFiles.{run_body}
 use Rattle.self_debugger.specs.Headline.{IsMain}
+use Rattle.self_debugger.proofs.SmallSigns.{small_signs}
+use Rattle.self_debugger.proofs.OneWorld.{text_read}
+use Rattle.self_debugger.proofs.Mains.{stands_in}
 
-small_int : (a : ℕ) (i : ℤ) → a ≤ 536870911 → pos a ≡ i → IsSmall i
-small_int a i h e = let P : ℤ → Type 0 = IsSmall in subst P e h
+-- The values that a node takes and leaves, as the builder and the runner count them.
 
-abbrev nodes_of : ℕ → ℕ → ℕ → ℕ → List Node
-nodes_of a x b y = (sum_body a x b y).nodes
+once : (b : Bool) → code.one_if b ≡ sound.one_if b
+once true = refl
+once false = refl
 
-small_at : (a x b y k : ℕ) (i : ℤ) → a ≤ 536870911 → b ≤ 536870911 → slice_get (nodes_of a x b y) k ≡ Some (nodes.Int i) → IsSmall i
-small_at a x b y zero i ha hb e = small_int a i ha (let f : pos a ≡ i = cc in f)
-small_at a x b y (suc zero) i ha hb e = small_int b i hb (let f : pos b ≡ i = cc in f)
-small_at a x b y (suc (suc zero)) i ha hb e = cc
-small_at a x b y (suc (suc (suc zero))) i ha hb e = cc
-small_at a x b y (suc (suc (suc (suc k)))) i ha hb e = cc
+same_taken : (n : Node) → code.taken n ≡ sound.taken n
+same_taken (nodes.Int i) = refl
+same_taken (nodes.Str s) = refl
+same_taken (nodes.BlockLit b) = refl
+same_taken nodes.SelfRef = refl
+same_taken nodes.Nil = refl
+same_taken (nodes.Read up slot) = refl
+same_taken (nodes.Store up slot) = refl
+same_taken (nodes.Send sel) = refl
+same_taken (nodes.SelfSend sel) = refl
+same_taken (nodes.Resend sel) = refl
+same_taken (nodes.Directed parent sel) = refl
+same_taken (nodes.Prim name args true true) = refl
+same_taken (nodes.Prim name args true false) = refl
+same_taken (nodes.Prim name args false true) = refl
+same_taken (nodes.Prim name args false false) = refl
+same_taken nodes.Drop = refl
+same_taken nodes.Restart = refl
+same_taken nodes.Return = refl
+same_taken nodes.NonLocal = refl
+same_taken nodes.End = refl
 
-room_at : (a x b y k : ℕ) → depth (nodes_of a x b y) k ≤ 64
-unfolding depth
-room_at a x b y zero = omega arith
-room_at a x b y (suc zero) = omega arith
-room_at a x b y (suc (suc zero)) = omega arith
-room_at a x b y (suc (suc (suc zero))) = omega arith
-room_at a x b y (suc (suc (suc (suc k)))) = omega arith
+same_grown : (n : Node) (k : ℕ) → code.grown n k ≡ sound.grown n k
+same_grown (nodes.Int i) k = refl
+same_grown (nodes.Str s) k = refl
+same_grown (nodes.BlockLit b) k = refl
+same_grown nodes.SelfRef k = refl
+same_grown nodes.Nil k = refl
+same_grown (nodes.Read up slot) k = refl
+same_grown (nodes.Store up slot) k = refl
+same_grown (nodes.Send sel) k = refl
+same_grown (nodes.SelfSend sel) k = refl
+same_grown (nodes.Resend sel) k = refl
+same_grown (nodes.Directed parent sel) k = refl
+same_grown (nodes.Prim name args true true) k = refl
+same_grown (nodes.Prim name args true false) k = refl
+same_grown (nodes.Prim name args false true) k = refl
+same_grown (nodes.Prim name args false false) k = refl
+same_grown nodes.Drop k = refl
+same_grown nodes.Restart k = refl
+same_grown nodes.Return k = refl
+same_grown nodes.NonLocal k = refl
+same_grown nodes.End k = refl
 
-taken_at : (n node : Node) (d : ℕ) → taken n ≤ d → Some n ≡ Some node → taken node ≤ d
-taken_at n node d h e = let P : Node → Type 0 = λ z. taken z ≤ d in let f : n ≡ node = cc in subst P f h
+same_inner : (n : Node) → plain.is_inner n ≡ sound.is_inner n
+same_inner (nodes.Int i) = refl
+same_inner (nodes.Str s) = refl
+same_inner (nodes.BlockLit b) = refl
+same_inner nodes.SelfRef = refl
+same_inner nodes.Nil = refl
+same_inner (nodes.Read up slot) = refl
+same_inner (nodes.Store up slot) = refl
+same_inner (nodes.Send sel) = refl
+same_inner (nodes.SelfSend sel) = refl
+same_inner (nodes.Resend sel) = refl
+same_inner (nodes.Directed parent sel) = refl
+same_inner (nodes.Prim name args implied handler) = refl
+same_inner nodes.Drop = refl
+same_inner nodes.Restart = refl
+same_inner nodes.Return = refl
+same_inner nodes.NonLocal = refl
+same_inner nodes.End = refl
 
-there_at : (a x b y k : ℕ) (node : Node) → slice_get (nodes_of a x b y) k ≡ Some node → taken node ≤ depth (nodes_of a x b y) k
-unfolding depth
-there_at a x b y zero node e = taken_at (nodes.Int (pos a)) node 0 (omega arith) e
-there_at a x b y (suc zero) node e = taken_at (nodes.Int (pos b)) node 1 (omega arith) e
-there_at a x b y (suc (suc zero)) node e = taken_at _ node 2 (omega arith) e
-there_at a x b y (suc (suc (suc zero))) node e = taken_at nodes.End node 1 (omega arith) e
-there_at a x b y (suc (suc (suc (suc k)))) node e = cc
+same_from : (d : ℕ) (list : List Node) (k : ℕ) → code.depth_from d list k ≡ sound.depth_from d list k
+same_from d [] k = refl
+same_from d (n ∷ list) zero = refl
+same_from d (n ∷ list) (suc k) = same_from (code.grown n d) list k ∙ ap (λ e. sound.depth_from e list k) (same_grown n d)
 
-ends_at : (a x b y k : ℕ) (node : Node) → slice_get (nodes_of a x b y) k ≡ Some node → is_inner node ≡ true → k + 1 < 4
-ends_at a x b y zero node e h = omega arith
-ends_at a x b y (suc zero) node e h = omega arith
-ends_at a x b y (suc (suc zero)) node e h = omega arith
-ends_at a x b y (suc (suc (suc zero))) node e h = let f : nodes.End ≡ node = cc in let g = ap is_inner f ∙ h in absurd (cc)
-ends_at a x b y (suc (suc (suc (suc k)))) node e h = absurd (cc)
+same_depth : (list : List Node) (k : ℕ) → code.depth list k ≡ sound.depth list k
+unfolding code.depth sound.depth
+same_depth list k = same_from 0 list k
 
-sum_runnable : (a x b y : ℕ) → a ≤ 536870911 → b ≤ 536870911 → IsRunnable (sum_body a x b y)
-sum_runnable a x b y ha hb = record {
-  some = omega arith;
-  few = omega arith;
-  placed = refl;
-  small = λ k i e. small_at a x b y k i ha hb e;
-  room = room_at a x b y;
-  there = there_at a x b y;
-  ends = ends_at a x b y;
+sound_runnable : (b : built_body.Body) → sound.IsSound b.nodes b.places → IsRunnable (run_body b)
+sound_runnable b h = record {
+  some = h.some;
+  few = h.few;
+  placed = h.placed;
+  small = h.small;
+  room = λ k. omega (arith, h.room k, same_depth b.nodes k);
+  there = λ k node at. omega (arith, h.there k node at, same_depth b.nodes k, same_taken node);
+  ends = λ k node at inner. h.ends k node at (sym (same_inner node) ∙ inner);
 }
 
-pub first_runnable : (body : Body) → IsMain body → IsRunnable body
-first_runnable body f =
-    let P : Body → Type 0 = IsRunnable in
-    let w = f.1 in
-    subst P (sym w.main) (sum_runnable (number w.a) (length w.a) (number w.b) (length w.b) (w.first.small) (w.second.small))
+pub main_runnable : (main : Body) → IsMain main → IsRunnable main
+main_runnable main (bytes, h) =
+    let w = h.world in
+    let t = text_read bytes w h.accepted in
+    let s = stands_in w.bodies (lobby_method w (number_of w.names (codes "main"))) main h.found in
+    subst (λ (x : Body). IsRunnable x) s.3
+    (sound_runnable s.1 (accepted_sound LIMITS (signs known bytes) t.text (names_after known bytes (tokens bytes)) bytes w (omega arith) (omega arith) t.spelt (small_signs known bytes) t.made s.0 s.1 s.2))

@@ -5,6 +5,7 @@ pub mod NameLemmas
 pub mod SlotLemmas
 pub mod LocalLemmas
 pub mod ThingLemmas
+pub mod FewNames
 pub mod Fronts
 pub mod OpenLemmas
 pub mod KindLemmas

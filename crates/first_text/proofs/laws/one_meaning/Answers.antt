@@ -1,10 +1,6 @@
 use Rattle.first_text.proofs.Decimals.{one_decimal}
 use Rattle.first_text.proofs.Scripts.{one_script}
-use Rattle.first_text.proofs.Worlds.{one_world}
 use Rattle.first_text.proofs.laws.one_meaning.Goals as goal
-
-pub returns-clause-world : goal.returns-clause-world
-returns-clause-world c = one_world
 
 pub returns-clause-script : goal.returns-clause-script
 returns-clause-script c = one_script

@@ -1,25 +1,34 @@
-use Rattle.std.proofs.Common.{◌∙◌, sym}
-use Rattle.std.proofs.lemmas.Option.{none-some, same_Some, IfSome_then}
+use Rattle.std.specs.Prelude.{List, ℕ}
+use Rattle.std.proofs.Common.{subst}
+use Rattle.std.proofs.lemmas.Option.{IfSome_then}
 use Rattle.self_debugger.specs.Answer.{Answer}
 use Rattle.self_debugger.specs.Headline.{Outcome}
-use Rattle.self_debugger.proofs.Cases.{of_other_world, of_first_world}
+use Rattle.self_debugger.proofs.Cases.{of_refused, of_world}
 use Rattle.self_debugger.proofs.top.build_world.Goals as goal
 
-pub returns-in-Ok-Some-clause-outcome : goal.returns-in-Ok-Some-clause-outcome
-returns-in-Ok-Some-clause-outcome g c = λ a s.
-    let P : Answer → Type 0 = λ x. Outcome c.serve_script.result.status x (g.K.Sink.taken c.args.out.now) (g.K.Sink.taken c.serve_script.new.out) in
-    of_first_world P c.args.world.now (g.S.Source.left c.args.script.now) c.in-Ok-Some.main
-    (rw c.in-Ok-Some.field-0-is at c.in-Ok-Some.ensures.found)
-    (λ body is. same_Some _ _ (sym (c.in-Ok-Some.ensures.only body is) ∙ c.in-Ok-Some.field-0-is))
-    (λ t e r. c.serve_script.ensures.outcome t a e r) s
+pub returns-in-Ok-Ok-clause-outcome : goal.returns-in-Ok-Ok-clause-outcome
+returns-in-Ok-Ok-clause-outcome g c = λ a s.
+    let P : Answer → Type 0 = λ x. Outcome c.serve_main.result.status x (g.K.Sink.taken c.args.out.now) (g.K.Sink.taken c.serve_main.new.out) in
+    of_world P c.args.bytes.now c.in-Ok-Ok.world (g.S.Source.left c.args.script.now) (rw c.in-Ok-Ok.field-0-is at c.in-Ok-Ok.ensures.read)
+    (λ r. c.serve_main.ensures.outcome a r) s
 
-pub returns-in-Ok-Some-clause-shown : goal.returns-in-Ok-Some-clause-shown
-returns-in-Ok-Some-clause-shown g c = λ t e.
-    IfSome_then c.serve_script.result.session (c.serve_script.ensures.shown t e) (λ left run.
-    record { main = c.in-Ok-Some.main; accepted = (rw c.in-Ok-Some.field-0-is at c.in-Ok-Some.ensures.found); run = run })
+pub returns-in-Ok-Err-clause-outcome : goal.returns-in-Ok-Err-clause-outcome
+returns-in-Ok-Err-clause-outcome g c = λ a s.
+    let P : Answer → Type 0 = λ x. Outcome c.tell.result.status x (g.K.Sink.taken c.args.out.now) (g.K.Sink.taken c.tell.new.out) in
+    of_refused P c.args.bytes.now c.in-Ok-Err.line.items (g.S.Source.left c.args.script.now) (rw c.in-Ok-Err.field-0-is at c.in-Ok-Err.ensures.refused)
+    (subst (λ (x : List ℕ). P (x, 2)) c.deref.ensures.value c.tell.ensures.outcome) s
 
-pub returns-in-Ok-None-clause-outcome : goal.returns-in-Ok-None-clause-outcome
-returns-in-Ok-None-clause-outcome g c = λ a s.
-    let P : Answer → Type 0 = λ x. Outcome c.refuse.result.status x (g.K.Sink.taken c.args.out.now) (g.K.Sink.taken c.refuse.new.out) in
-    of_other_world P c.args.world.now (g.S.Source.left c.args.script.now) c.requires
-    (λ body is. none-some body (sym c.in-Ok-None.field-0-is ∙ c.in-Ok-None.ensures.only body is)) c.refuse.ensures.outcome s
+pub returns-in-Ok-Ok-clause-read : goal.returns-in-Ok-Ok-clause-read
+returns-in-Ok-Ok-clause-read g c = λ four.
+    let r = c.serve_main.ensures.read four in
+    (r.0, (r.1.0, record { world = c.in-Ok-Ok.world; accepted = (rw c.in-Ok-Ok.field-0-is at c.in-Ok-Ok.ensures.read); found = r.1.1 }))
+
+pub returns-in-Ok-Ok-clause-ran : goal.returns-in-Ok-Ok-clause-ran
+returns-in-Ok-Ok-clause-ran g c =
+    IfSome_then c.serve_main.result.session c.serve_main.ensures.ran (λ e r.
+    (r.0, record { main = r.1.main; accepted = record { world = c.in-Ok-Ok.world; accepted = (rw c.in-Ok-Ok.field-0-is at c.in-Ok-Ok.ensures.read); found = r.1.found }; run = r.1.run }))
+
+pub returns-in-Ok-Ok-clause-shown : goal.returns-in-Ok-Ok-clause-shown
+returns-in-Ok-Ok-clause-shown g c = λ t told.
+    IfSome_then c.serve_main.result.session (c.serve_main.ensures.shown t told) (λ e r.
+    record { main = r.main; accepted = record { world = c.in-Ok-Ok.world; accepted = (rw c.in-Ok-Ok.field-0-is at c.in-Ok-Ok.ensures.read); found = r.found }; run = r.run })

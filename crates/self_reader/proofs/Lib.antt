@@ -1,0 +1,14 @@
+pub mod Answered
+pub mod Closing
+pub mod CodeFollows
+pub mod Ending
+pub mod Following
+pub mod LocalFollows
+pub mod NameLemmas
+pub mod NumberLaws
+pub mod Said
+pub mod SettlingLemmas
+pub mod Shown
+pub mod SignLaws
+pub mod SlotFollows
+pub mod Stepping

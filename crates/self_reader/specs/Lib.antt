@@ -1,0 +1,11 @@
+pub mod CodeTurns
+pub mod LocalTurns
+pub mod Numbers
+pub mod Owners
+pub mod Reading
+pub mod Settling
+pub mod Signs
+pub mod SlotTurns
+pub mod Texts
+pub mod Turning
+pub mod Turns

@@ -1,0 +1,133 @@
+-- What a sign does in the slots of a block, on lists. Used by contracts of private functions alone: no public clause cites it.
+use Rattle.std.specs.Prelude.{ℕ, Bool, true, false, if◌then◌else◌, Option, None, Some, List, [], ◌∷◌, ◌++◌}
+use Rattle.self_grammar.specs.declared.signs.Spot.{Spot}
+use Rattle.self_grammar.specs.declared.signs.Reserved.{Reserved}
+use Rattle.self_grammar.specs.declared.signs.Reserved.TheVariants.{Free, Itself, Resend}
+use Rattle.self_grammar.specs.declared.signs.Role.{Role}
+use Rattle.self_grammar.specs.declared.signs.Role.TheVariants.{Equals, Arrow, Star, Other}
+use Rattle.self_grammar.specs.declared.signs.Symbol.{Symbol}
+use Rattle.self_grammar.specs.declared.signs.Symbol.TheVariants as sign
+use Rattle.self_grammar.specs.declared.pieces.Words.TheVariants.{One}
+use Rattle.self_grammar.specs.declared.pieces.SlotForm.{SlotForm}
+use Rattle.self_grammar.specs.declared.pieces.SlotForm.TheVariants as form
+use Rattle.self_grammar.specs.declared.pieces.Item.{Item}
+use Rattle.self_grammar.specs.declared.pieces.Item.TheVariants as items
+use Rattle.self_grammar.specs.Counts.{Limits, Breach, Context, Event, quiet, saying}
+use Rattle.self_grammar.specs.Scopes.{Scope, named, with_argument, with_local, again, too_many_arguments, too_many_locals}
+use Rattle.self_reader.specs.declared.counts.Post.TheVariants as post
+use Rattle.self_reader.specs.declared.frames.Label.{Label}
+use Rattle.self_reader.specs.declared.frames.Frame.{Frame}
+use Rattle.self_reader.specs.declared.frames.Frame.TheVariants as f
+use Rattle.self_reader.specs.declared.frames.At.{At}
+use Rattle.self_reader.specs.declared.frames.At.TheVariants as at
+use Rattle.self_reader.specs.Turns.{Turn, listed}
+
+-- a turn behind which nothing more is counted
+abbrev pub simply : Context → Event → At → List Frame → Option Turn
+simply c e a fs = Some (record { counts = c; event = e; post = post.Stay; at = a; frames = fs })
+
+-- what is counted before a sign: slots that end there, and rules that are known there
+abbrev pub placed : List Item → Context → Context
+placed is c = record c { ready = c.ready ++ is }
+
+abbrev pub told : List Breach → Context → Context
+told bs c = record c { late = c.late ++ bs }
+
+-- names that the slots get, and what they count and break
+abbrev pub with_name : Limits → ℕ → Spot → Scope → Scope
+with_name l n b t = named (n ∷ []) (with_local l b t)
+
+abbrev pub name_event : Limits → Scope → ℕ → Spot → Event
+name_event l t n b = record quiet { counted = b ∷ []; broken = too_many_locals l t ++ again t (n ∷ []) b }
+
+abbrev pub argument_event : Limits → Scope → ℕ → Spot → Event
+argument_event l t n b = record quiet { says = items.Argument n ∷ []; counted = b ∷ []; broken = too_many_arguments l t.arguments ++ again t (n ∷ []) b }
+
+abbrev pub with_setter : Label → Scope → Scope
+with_setter w t = named (w.setter ∷ []) t
+
+abbrev pub setter_again : Label → Scope → List Breach
+setter_again w t = again t (w.setter ∷ []) w.spot
+
+abbrev pub if_free : Reserved → Option Turn → Option Turn
+if_free Free t = t
+if_free Itself t = None
+if_free Resend t = None
+
+abbrev pub label : ℕ → ℕ → Spot → Label
+label n s b = record { name = n; setter = s; spot = b }
+
+abbrev pub slot_item : Label → SlotForm → Item
+slot_item w k = items.Slot (One w.name) k w.spot
+
+-- The slots get a name, or an argument.
+abbrev pub named_at : Limits → ℕ → ℕ → Spot → List Frame → Context → Option Turn
+named_at l n s b (f.Locals t ∷ fs) c = simply c (name_event l t n b) (at.LocalNamed (label n s b)) (f.Locals (with_name l n b t) ∷ fs)
+named_at l n s b _ c = None
+
+abbrev pub argument_at : Limits → ℕ → Spot → List Frame → Context → Option Turn
+argument_at l n b (f.Locals t ∷ fs) c = simply c (argument_event l t n b) (at.LocalDone None false) (f.Locals (with_argument (n ∷ []) t) ∷ fs)
+argument_at l n b _ c = None
+
+-- The bar behind them: the code of the block begins.
+abbrev pub code_begins : List Frame → Context → Option Turn
+code_begins (f.Block false ∷ fs) c = simply c quiet at.Wanting (f.Statement false ∷ f.Block true ∷ fs)
+code_begins _ c = None
+
+abbrev pub closed : List Frame → Context → Option Turn
+closed (f.Locals t ∷ fs) c = code_begins fs c
+closed _ c = None
+
+-- where a slot is wanted
+abbrev pub local_turn : Limits → List Frame → Context → Symbol → Spot → Option Turn
+local_turn l fs c (sign.Name n s r) b = if_free r (named_at l n s b fs c)
+local_turn l fs c (sign.Argument n s r) b = if_free r (argument_at l n b fs c)
+local_turn l fs c sign.Bar b = closed fs c
+local_turn l fs c _ b = None
+
+-- A slot ends, with its item.
+abbrev pub done_turn : Option Item → List Frame → Context → Symbol → Option Turn
+done_turn i fs c sign.Period = simply (placed (listed i) c) quiet at.Local fs
+done_turn i fs c sign.Bar = closed fs (placed (listed i) c)
+done_turn i fs c _ = None
+
+-- behind a name
+abbrev pub arrow_turn : Label → List Frame → Context → Option Turn
+arrow_turn w (f.Locals t ∷ fs) c = simply c (record quiet { broken = setter_again w t }) (at.LocalArrow w) (f.Locals (with_setter w t) ∷ fs)
+arrow_turn w _ c = None
+
+abbrev pub role_turn : Label → Role → List Frame → Context → Option Turn
+role_turn w Equals fs c = simply c quiet (at.LocalEquals w) fs
+role_turn w Arrow fs c = arrow_turn w fs c
+role_turn w Star fs c = None
+role_turn w Other fs c = None
+
+abbrev pub bare_turn : Label → List Frame → Context → Symbol → Option Turn
+bare_turn w (f.Locals t ∷ fs) c x = done_turn (Some (slot_item w (form.Bare w.setter))) (f.Locals (with_setter w t) ∷ fs) (told (setter_again w t) c) x
+bare_turn w _ c x = None
+
+abbrev pub local_named_turn : Label → List Frame → Context → Symbol → Option Turn
+local_named_turn w fs c (sign.Operator n r) = role_turn w r fs c
+local_named_turn w fs c sign.Period = bare_turn w fs c sign.Period
+local_named_turn w fs c sign.Bar = bare_turn w fs c sign.Bar
+local_named_turn w fs c _ = None
+
+-- where the contents of a slot are wanted, which ends with this item
+abbrev pub contents_turn : Item → List Frame → Context → Symbol → Spot → Option Turn
+contents_turn i fs c (sign.Integer z) b = simply c (saying (items.Integer z)) (at.LocalDone (Some i) false) fs
+contents_turn i fs c (sign.Text s e) b = simply c (saying (items.Text s e)) (at.LocalDone (Some i) false) fs
+contents_turn i fs c (sign.Name n s r) b = simply c (saying (items.Root n b)) (at.LocalDone (Some i) true) fs
+contents_turn i fs c _ b = None
+
+abbrev pub local_equals_turn : Label → List Frame → Context → Symbol → Spot → Option Turn
+local_equals_turn w fs c x b = contents_turn (slot_item w form.Constant) fs c x b
+
+abbrev pub local_arrow_turn : Label → List Frame → Context → Symbol → Spot → Option Turn
+local_arrow_turn w fs c x b = contents_turn (slot_item w (form.Assignable w.setter)) fs c x b
+
+-- behind a slot: a path may go on
+abbrev pub local_done_turn : Option Item → Bool → List Frame → Context → Symbol → Spot → Option Turn
+local_done_turn i path fs c (sign.Name n s r) b = if path then simply c (saying (items.Further n b)) (at.LocalDone i true) fs else None
+local_done_turn i path fs c sign.Period b = done_turn i fs c sign.Period
+local_done_turn i path fs c sign.Bar b = done_turn i fs c sign.Bar
+local_done_turn i path fs c _ b = None
