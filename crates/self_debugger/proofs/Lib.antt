@@ -1,6 +1,5 @@
 pub mod Limits
 pub mod ClosedSigns
-pub mod SmallSigns
 pub mod OneWorld
 pub mod Built
 pub mod Mains

@@ -16,9 +16,9 @@ use Rattle.world_build.specs.Names.{number_of}
 use Rattle.world_build.specs.Soundness as sound
 use Rattle.world_build.specs.Worlds.{lobby_method}
 use Rattle.world_build.proofs.Runnable.{accepted_sound}
+use Rattle.world_image.proofs.SmallSigns.{small_signs}
 use Rattle.self_debugger.specs.WorldFiles.{run_body}
 use Rattle.self_debugger.specs.Headline.{IsMain}
-use Rattle.self_debugger.proofs.SmallSigns.{small_signs}
 use Rattle.self_debugger.proofs.OneWorld.{text_read}
 use Rattle.self_debugger.proofs.Mains.{stands_in}
 

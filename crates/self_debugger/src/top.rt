@@ -187,7 +187,7 @@ fn check_world<K: Sink>(alloc: Global, bytes: &[u8], out: &mut K) -> Ended
     ensures session { IsNone result.session }
 {
     match world_of(alloc, bytes) {
-        Ok(Ok(world)) => tell_world(alloc, &world, out),
+        Ok(Ok(image)) => tell_world(alloc, image.world(), out),
         Ok(Err(line)) => tell(out, &line, 2),
         Err(_) => without_session(6),
     }
@@ -226,7 +226,7 @@ fn build_world<S: Source, K: Sink>(
     ensures shown { (t : List ℕ) → S.left script.old ≡ Some t → IfSome result.session (IsSession bytes.now t) }
 {
     match world_of(alloc, bytes) {
-        Ok(Ok(world)) => serve_main(alloc, &world, script, out),
+        Ok(Ok(image)) => serve_main(alloc, image.world(), script, out),
         Ok(Err(line)) => tell(out, &line, 2),
         Err(_) => without_session(6),
     }

@@ -14,35 +14,39 @@ use crate::lines::{build_line, read_line};
 use self_reader::{ReadStop, WorldTree, read_world};
 use self_terms::{Name, Names};
 use std::alloc::{AllocError, Global};
-use world_build::{Body, World, load};
+use world_build::{Body, World};
+use world_image::{WorldImage, build};
 
-/// The world of the bytes of a file, or the line that refuses them.
-pub fn world_of(alloc: Global, bytes: &[u8]) -> Result<Result<World, Vec<u8>>, AllocError>
+/// The world of the bytes of a file, with its maps and words, or the line that refuses them.
+pub fn world_of(alloc: Global, bytes: &[u8]) -> Result<Result<WorldImage, Vec<u8>>, AllocError>
     requires { length bytes.now ≤ 1048576 }
-    ensures read { IfOk result (λ r. IfOk r (λ w. WorldRead bytes.now (Ok w))) }
-    ensures few { IfOk result (λ r. IfOk r (λ w. length w.names ≤ 450000000)) }
+    ensures read { IfOk result (λ r. IfOk r (λ i. WorldRead bytes.now (Ok i.world))) }
+    ensures few { IfOk result (λ r. IfOk r (λ i. length i.world.names ≤ 450000000)) }
     ensures refused { IfOk result (λ r. IfErr r (λ line. WorldRead bytes.now (Err line.items))) }
 {
     match read_world(alloc, bytes) {
-        Ok(tree) => build(alloc, bytes, tree),
+        Ok(tree) => build_world(alloc, bytes, tree),
         Err(ReadStop::Refused(refusal)) => Ok(Err(read_line(alloc, refusal)?)),
         Err(ReadStop::OutOfMemory) => Err(AllocError),
     }
 }
 
 // The world of what was read from these bytes.
-fn build(alloc: Global, bytes: &[u8], tree: WorldTree) -> Result<Result<World, Vec<u8>>, AllocError>
+fn build_world(
+    alloc: Global,
+    bytes: &[u8],
+    tree: WorldTree,
+) -> Result<Result<WorldImage, Vec<u8>>, AllocError>
     requires short { length bytes.now ≤ 1048576 }
     requires text { AreRead Text (world LIMITS) (signs known bytes.now) tree.items.items }
     requires names { tree.names ≡ names_after known bytes.now (tokens bytes.now) }
     requires few { length tree.items.items + length tree.names ≤ 20000000 }
-    ensures read { IfOk result (λ r. IfOk r (λ w. WorldRead bytes.now (Ok w))) }
-    ensures few { IfOk result (λ r. IfOk r (λ w. length w.names ≤ 450000000)) }
+    ensures read { IfOk result (λ r. IfOk r (λ i. WorldRead bytes.now (Ok i.world))) }
+    ensures few { IfOk result (λ r. IfOk r (λ i. length i.world.names ≤ 450000000)) }
     ensures refused { IfOk result (λ r. IfErr r (λ line. WorldRead bytes.now (Err line.items))) }
 {
-    let WorldTree { items, names } = tree;
-    match load(alloc, bytes, &items, names) {
-        Ok(world) => Ok(Ok(world)),
+    match build(alloc, bytes, tree) {
+        Ok(image) => Ok(Ok(image)),
         Err(refusal) => Ok(Err(build_line(alloc, refusal)?)),
     }
 }

@@ -13,3 +13,8 @@ pub mod Room
 pub mod ItemLemmas
 pub mod CoreLemmas
 pub mod Rows
+pub mod Heavy
+pub mod Weights
+pub mod Spans
+pub mod DataIntegers
+pub mod SmallData

@@ -1,9 +1,10 @@
 -- Slots as the entries of a map that keeps their order.
-use Rattle.std.proofs.Common.{◌≡◌, ℕ, true, false, List, [], ◌∷◌, ◌++◌, map, inl, inr, refl, ap, subst, ◌∙◌}
-use Rattle.std.specs.Prelude.{nat_eq, Option, Some, None, is_some}
-use Rattle.std.specs.List.{list_any}
+use Rattle.std.proofs.Common.{◌≡◌, ℕ, zero, suc, true, false, List, [], ◌∷◌, ◌++◌, map, take, inl, inr, refl, ap, sym, subst, ◌∙◌}
+use Rattle.std.specs.Prelude.{nat_eq, Option, Some, None, is_some, slice_get}
+use Rattle.std.specs.List.{list_any, IsDistinct, AllByRecursion}
+use Rattle.std.specs.Map.{keys_of}
 use Rattle.std.specs.Map.{lookup}
-use Rattle.std.proofs.lemmas.Bool.{cases_Bool, true≢false}
+use Rattle.std.proofs.lemmas.Bool.{cases_Bool, true≢false, ne_eqb, eqb-false}
 use Rattle.world_build.specs.declared.slots.Content.{Content}
 use Rattle.world_build.specs.declared.slots.Slot.{Slot}
 use Rattle.world_build.specs.Slots.{slot_in, is_named, slot_of, add_slot}
@@ -47,3 +48,25 @@ pub slot_added : (slots : List Slot) (es new : Entries) (x : Slot) → map slot_
 slot_added slots es new x e t f =
     let any : list_any (is_named x.name) slots ≡ false = subst (λ (z : List Slot). list_any (is_named x.name) z ≡ false) e (slot_any x.name es ∙ t) in
     rw any (ap (map slot_in) f ∙ slots_append es (x.name, x.content) ∙ ap (λ (z : List Slot). z ++ x ∷ []) e)
+
+-- Each name stands once.
+
+some_slot : (x y : Slot) → ◌≡◌ {A = Option Slot} (Some x) (Some y) → x ≡ y
+some_slot x y e = cc
+
+named_none : (slots : List Slot) (n : ℕ) (x : Slot) → nat_eq x.name n ≡ false → slot_of n slots ≡ None → slot_of n (x ∷ slots) ≡ None
+named_none slots n x e f =
+    let other : nat_eq n x.name ≡ false = ne_eqb n x.name (λ p. eqb-false x.name n e (sym p)) in
+    rw (other, f) refl
+
+other_name : (es : Entries) (n : ℕ) (at : ℕ) (s : Slot) → AllByRecursion (λ k. nat_eq n k ≡ false) (keys_of es) → slice_get (map slot_in es) at ≡ Some s → nat_eq n s.name ≡ false
+other_name [] n at s a e = cc
+other_name (x ∷ es) n zero s a e = subst (λ (y : Slot). nat_eq n y.name ≡ false) (some_slot _ _ e) a.0
+other_name (x ∷ es) n (suc at) s a e = other_name es n at s a.1 e
+
+-- in front of a slot stands none of its name
+pub none_in_front : (es : Entries) (at : ℕ) (s : Slot) → IsDistinct nat_eq (keys_of es) → slice_get (map slot_in es) at ≡ Some s → slot_of s.name (take at (map slot_in es)) ≡ None
+unfolding IsDistinct
+none_in_front [] at s d e = cc
+none_in_front (x ∷ es) zero s d e = refl
+none_in_front (x ∷ es) (suc at) s d e = named_none (take at (map slot_in es)) s.name (slot_in x) (other_name es x.0 at s d.0 e) (none_in_front es at s d.1 e)

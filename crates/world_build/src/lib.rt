@@ -19,8 +19,6 @@ mod members;
 mod nodes;
 mod refusals;
 mod slots;
-#[cfg(test)]
-mod tests;
 mod things;
 mod values;
 mod worlds;

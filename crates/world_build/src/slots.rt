@@ -1,5 +1,5 @@
 // The slots of an object.
-ghost use Rattle.std.specs.Prelude.{◌≡◌, [], OnOk};
+ghost use Rattle.std.specs.Prelude.{◌≡◌, [], ℕ, length, slice_get, take, OnOk, Some, None};
 ghost use Rattle.world_build.specs.Slots.{slot_of, add_slot, data_in};
 
 use crate::values::Value;
@@ -49,6 +49,31 @@ impl Slots {
         Slots {
             slots: IndexMap::new(alloc),
         }
+    }
+
+    /// How many slots there are.
+    pub fn len(&self) -> usize
+        ensures { result ≡ length self.now }
+    {
+        self.slots.len()
+    }
+
+    /// The slot at a number from 0; none past the last.
+    pub fn slot_at(&self, at: usize) -> Option<Slot>
+        ensures { result ≡ slice_get self.now at }
+    {
+        let (name, content) = self.slots.get_index(at)?;
+        Some(Slot {
+            name: *name,
+            content: *content,
+        })
+    }
+
+    /// A law: in front of a slot stands none of its name.
+    pub fn have_each_once(&self)
+        ensures { (at : ℕ) (s : Slot) → slice_get self.now at ≡ Some s → slot_of s.name (take at self.now) ≡ None }
+    {
+        let _count = self.slots.len();
     }
 
     /// What the slot of a name holds.

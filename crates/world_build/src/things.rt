@@ -73,6 +73,13 @@ impl Things {
         self.things.len()
     }
 
+    /// The objects and strings in the order of their numbers.
+    pub fn as_slice(&self) -> &[Thing]
+        ensures { result.now ≡ self.now }
+    {
+        self.things.as_slice()
+    }
+
     pub(crate) fn push(&mut self, thing: Thing) -> Result<(), AllocError>
         ensures { OnOk result (self.new ≡ self.old ++ thing ∷ []) }
     {
