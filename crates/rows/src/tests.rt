@@ -10,11 +10,11 @@ use std::alloc::{AllocError, Global};
 use std::test::Fail;
 
 // What the sink took, the status, and how many calls the files had.
-type Written = (Vec<u8>, u8, u64);
+pub(crate) type Written = (Vec<u8>, u8, u64);
 
 const RUN: &[&str] = &["run", "add.self"];
 
-const CHECK: &[&str] = &["check", "add.self"];
+pub(crate) const CHECK: &[&str] = &["check", "add.self"];
 
 // Worlds behind the core text, scripts, texts and statuses.
 const SUMS: &str = "\
@@ -69,7 +69,7 @@ fn bytes_of(alloc: Global, field: &str) -> Result<Vec<u8>, AllocError> {
 }
 
 // The field of a row with this number, and the empty text behind the last.
-fn field(row: &str, number: usize) -> &str {
+pub(crate) fn field(row: &str, number: usize) -> &str {
     match row.split(';').nth(number) {
         Some(field) => field,
         None => "",
@@ -96,7 +96,7 @@ fn files_of(alloc: Global, world: &[u8], failed: u64) -> Result<MemFiles, AllocE
 }
 
 // A call over the files, and a script. The reads of the script and the writes with these numbers fail.
-fn call(
+pub(crate) fn call(
     alloc: Global,
     words: &[&str],
     world: &[u8],
