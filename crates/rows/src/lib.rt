@@ -6,6 +6,8 @@
 #[cfg(test)]
 mod core_text;
 #[cfg(test)]
+mod edits;
+#[cfg(test)]
 mod limits;
 #[cfg(test)]
 mod refusals;
