@@ -6,6 +6,7 @@ use Rattle.std.specs.Prelude.{◌≡◌, ℕ, zero, suc, ◌+◌, ◌-◌, ◌*�
 use Rattle.self_terms.specs.declared.names.TheConstants.{INT_ADD, INT_SUB}
 use Rattle.self_terms.specs.declared.nodes.Node.{Node}
 use Rattle.self_terms.specs.declared.nodes.Node.TheVariants as nodes
+use Rattle.self_terms.specs.Depths.{depth}
 use Rattle.self_terms.specs.Words.{word_of}
 use Rattle.sparc_insn.specs.declared.insn.Insn.{Insn}
 use Rattle.sparc_insn.specs.declared.insn.Insn.TheVariants.{Sethi, Branch, Three, Trap}
@@ -69,45 +70,6 @@ body_code _ k = failing_code
 
 abbrev pub node_code : Node → ℕ → List Insn
 node_code node k = poll ++ body_code node k
-
-abbrev pub one_if : Bool → ℕ
-one_if true = 1
-one_if false = 0
-
--- how many pending values a node takes
-abbrev pub taken : Node → ℕ
-taken (nodes.Store up slot) = 1
-taken (nodes.Send sel) = sel.args + 1
-taken (nodes.SelfSend sel) = sel.args
-taken (nodes.Resend sel) = sel.args
-taken (nodes.Directed parent sel) = sel.args
-taken (nodes.Prim name args implied handler) = args + one_if (not implied) + one_if handler
-taken nodes.Drop = 1
-taken nodes.Return = 1
-taken nodes.NonLocal = 1
-taken nodes.End = 1
-taken _ = 0
-
--- how many it leaves in their place
-abbrev pub left_by : Node → ℕ
-left_by nodes.Drop = 0
-left_by nodes.Return = 0
-left_by nodes.NonLocal = 0
-left_by nodes.End = 0
-left_by _ = 1
-
--- how many values are pending after a node over k of them
-abbrev pub grown : Node → ℕ → ℕ
-grown node k = k - taken node + left_by node
-
--- how many values are pending before a node of a list that begins over d of them, the nodes being done in their order
-abbrev pub depth_from : ℕ → List Node → ℕ → ℕ
-depth_from d [] k = d
-depth_from d (n ∷ ns) zero = d
-depth_from d (n ∷ ns) (suc k) = depth_from (grown n d) ns k
-
-unfoldable pub depth : List Node → ℕ → ℕ
-depth nodes k = depth_from 0 nodes k
 
 -- these instructions stand at this address and the next ones
 abbrev pub At : Words → ℕ → List Insn → Type 0

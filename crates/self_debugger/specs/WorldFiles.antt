@@ -1,6 +1,7 @@
 -- What the bytes of a world file mean: a world, or the line that refuses them.
 use Rattle.std.specs.Prelude.{◌≡◌, ℕ, zero, suc, ◌<◌, ◌≤◌, Option, None, Some, Result, Ok, Err, List, length, slice_get, codes}
 use Rattle.self_terms.specs.declared.values.BodyId.{BodyId}
+use Rattle.self_terms.specs.declared.bodies.Body as built_body
 use Rattle.self_tokens.specs.Tokens.{tokens}
 use Rattle.self_grammar.specs.declared.signs.ReadRefusal.{ReadRefusal}
 use Rattle.self_grammar.specs.Grammar as grammar
@@ -10,7 +11,6 @@ use Rattle.self_reader.specs.declared.texts.TheConstants.{LIMITS}
 use Rattle.self_reader.specs.Signs.{signs, names_after}
 use Rattle.self_reader.specs.Texts.{known}
 use Rattle.source_model.specs.State.{Body}
-use Rattle.world_build.specs.declared.bodies.Body as built_body
 use Rattle.world_build.specs.declared.refusals.BuildRefusal.{BuildRefusal}
 use Rattle.world_build.specs.Names.{number_of}
 use Rattle.world_build.specs.Worlds.{World, built, lobby_method}

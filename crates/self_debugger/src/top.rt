@@ -20,8 +20,9 @@ use crate::worlds::{main_of, world_of};
 use first_text::first_script;
 use io_ports::{Failed, Files, ReadErr, Sink, Source, read_all, read_file, write_all};
 use run_core::{RunEnd, run_first};
+use self_terms::Body;
 use std::alloc::{AllocError, Global};
-use world_build::{Body, World};
+use world_build::World;
 
 // The most bytes of a world file and of a script.
 const LIMIT: usize = 1048576;

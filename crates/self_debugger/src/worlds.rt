@@ -12,9 +12,9 @@ ghost use Rattle.self_debugger.specs.WorldFiles.{WorldRead, run_body, main_of};
 
 use crate::lines::{build_line, read_line};
 use self_reader::{ReadStop, WorldTree, read_world};
-use self_terms::{Name, Names};
+use self_terms::{Body, Name, Names};
 use std::alloc::{AllocError, Global};
-use world_build::{Body, World};
+use world_build::World;
 use world_image::{WorldImage, build};
 
 /// The world of the bytes of a file, with its maps and words, or the line that refuses them.

@@ -1,4 +1,4 @@
-// Values, and the numbers of bodies and maps.
+// Values, of a text and of a running program, and the numbers of bodies and maps.
 
 use crate::names::Name;
 
@@ -23,4 +23,13 @@ pub enum Value {
     Int(i32),
     Object(u32),
     Block { body: BodyId, maker: u64 },
+}
+
+/// A value of a slot or of a local as a text says it: an integer, an object by its number, or the core object nil, whose
+/// number is told by the whole text.
+#[derive(Clone, Copy, PartialEq, Eq, Debug)]
+pub enum Datum {
+    Integer(i32),
+    Object(u32),
+    Nil,
 }

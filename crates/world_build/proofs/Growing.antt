@@ -6,10 +6,11 @@ use Rattle.self_terms.specs.declared.nodes.Node.{Node}
 use Rattle.self_terms.specs.declared.nodes.Node.TheVariants as nodes
 use Rattle.self_terms.specs.declared.nodes.Place.{Place}
 use Rattle.self_terms.specs.Words.{IsSmall}
+use Rattle.self_terms.specs.Depths.{taken, left_by, grown, depth_from, depth, is_inner}
 use Rattle.self_grammar.specs.declared.pieces.TextNode.{TextNode}
 use Rattle.self_grammar.specs.Counts.{Limits, takes, gives}
 use Rattle.self_grammar.specs.Balance.{Entry, fresh, ends, admits, behind}
-use Rattle.world_build.specs.Soundness.{taken, left_by, grown, depth_from, depth, is_inner, IsSound}
+use Rattle.world_build.specs.Soundness.{IsSound}
 
 -- Lists of nodes.
 

@@ -3,7 +3,6 @@ pub mod Standing
 pub mod Runnable
 pub mod NameLemmas
 pub mod SlotLemmas
-pub mod LocalLemmas
 pub mod ThingLemmas
 pub mod FewNames
 pub mod Fronts

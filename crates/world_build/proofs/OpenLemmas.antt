@@ -1,10 +1,10 @@
 -- A step outwards through what is open.
 use Rattle.std.proofs.Common.{◌≡◌, ℕ, ◌+◌, Bool, List, drop, ap, ◌∙◌}
 use Rattle.std.specs.Prelude.{Some, None, slice_get}
+use Rattle.self_terms.specs.declared.bodies.Body.{Body}
+use Rattle.self_terms.specs.Bodies.{Entry, entries_of, number_of}
 use Rattle.world_build.specs.declared.values.Open.{Open}
 use Rattle.world_build.specs.declared.values.Open.TheVariants.{InObject as in_object, InBody as in_body}
-use Rattle.world_build.specs.declared.bodies.Body.{Body}
-use Rattle.world_build.specs.Bodies.{Entry, entries_of, number_of}
 use Rattle.world_build.specs.Nodes.{found, or_outer}
 use Rattle.world_build.proofs.Fronts.{drop_there, drop_past}
 

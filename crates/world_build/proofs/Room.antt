@@ -5,6 +5,10 @@ use Rattle.std.proofs.Math.ListN.{length-set}
 use Rattle.std.proofs.lemmas.Bool.{cases_Bool}
 use Rattle.self_terms.specs.declared.nodes.Node.{Node}
 use Rattle.self_terms.specs.declared.nodes.Place.{Place}
+use Rattle.self_terms.specs.declared.values.Datum.{Datum as Value}
+use Rattle.self_terms.specs.declared.bodies.Body.{Body}
+use Rattle.self_terms.specs.Names.{with_text}
+use Rattle.self_terms.specs.Bodies.{changed, change_body}
 use Rattle.self_grammar.specs.declared.signs.Spot.{Spot}
 use Rattle.self_grammar.specs.declared.pieces.Words.{Words}
 use Rattle.self_grammar.specs.declared.pieces.Made.{Made}
@@ -15,7 +19,6 @@ use Rattle.self_grammar.specs.declared.pieces.SlotForm.TheVariants as form
 use Rattle.self_grammar.specs.declared.pieces.Item.{Item}
 use Rattle.self_grammar.specs.declared.pieces.Item.TheVariants as items
 use Rattle.self_grammar.specs.Parts.{parts_in}
-use Rattle.world_build.specs.declared.values.Value.{Value}
 use Rattle.world_build.specs.declared.values.Open.{Open}
 use Rattle.world_build.specs.declared.values.Open.TheVariants.{InObject as in_object, InBody as in_body}
 use Rattle.world_build.specs.declared.values.Held.{Held}
@@ -23,14 +26,11 @@ use Rattle.world_build.specs.declared.values.Held.TheVariants.{Nothing as nothin
 use Rattle.world_build.specs.declared.slots.Slot.{Slot}
 use Rattle.world_build.specs.declared.things.Thing.{Thing}
 use Rattle.world_build.specs.declared.things.Thing.TheVariants.{Plain as plain, Text as string}
-use Rattle.world_build.specs.declared.bodies.Body.{Body}
 use Rattle.world_build.specs.declared.refusals.BuildRefusal.{BuildRefusal}
 use Rattle.world_build.specs.declared.loading.Loading.{Loading}
 use Rattle.world_build.specs.declared.cores.CoreName.{CoreName}
-use Rattle.self_terms.specs.Names.{with_text}
 use Rattle.world_build.specs.Names.{with_words, joined, lobby_text, core_text, core_names, with_core_texts}
 use Rattle.world_build.specs.Things.{change_thing}
-use Rattle.world_build.specs.Bodies.{changed, change_body}
 use Rattle.world_build.specs.Loading.{begun, is_object, opened, innermost, followed, root, further, at_object, add_slots, slots_for, placed_in, name_body, with_slot, slot_ended, is_parent, may_be_parent, argument_in, with_argument}
 use Rattle.world_build.specs.Nodes.{beside, at_innermost, with_node, node_of, take_item}
 use Rattle.world_build.specs.Steps.{IsWithin}

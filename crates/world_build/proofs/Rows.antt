@@ -3,6 +3,8 @@ use Rattle.std.specs.Prelude.{◌≡◌, ℕ, pos, Option, None, Some, Result, O
 use Rattle.self_terms.specs.declared.nodes.Node.{Node}
 use Rattle.self_terms.specs.declared.nodes.Node.TheVariants as nodes
 use Rattle.self_terms.specs.declared.nodes.Place.{Place}
+use Rattle.self_terms.specs.declared.values.Datum.TheVariants.{Object as object}
+use Rattle.self_terms.specs.declared.bodies.Body.{Body}
 use Rattle.self_grammar.specs.declared.signs.Spot.{Spot}
 use Rattle.self_grammar.specs.declared.pieces.Words.TheVariants.{One, Two}
 use Rattle.self_grammar.specs.declared.pieces.Target.TheVariants as target
@@ -12,12 +14,10 @@ use Rattle.self_grammar.specs.declared.pieces.SlotForm.TheVariants as form
 use Rattle.self_grammar.specs.declared.pieces.Item.{Item}
 use Rattle.self_grammar.specs.declared.pieces.Item.TheVariants as items
 use Rattle.world_build.specs.declared.cores.CoreName.TheVariants as core
-use Rattle.world_build.specs.declared.values.Value.TheVariants.{Object as object}
 use Rattle.world_build.specs.declared.slots.Content.TheVariants.{Constant as constant, Assignable as assignable, Assignment as assignment}
 use Rattle.world_build.specs.declared.slots.Slot.{Slot}
 use Rattle.world_build.specs.declared.things.Thing.{Thing}
 use Rattle.world_build.specs.declared.things.Thing.TheVariants.{Plain as plain, Text as string}
-use Rattle.world_build.specs.declared.bodies.Body.{Body}
 use Rattle.world_build.specs.declared.refusals.BuildRefusal.{BuildRefusal}
 use Rattle.world_build.specs.declared.refusals.BuildRefusal.TheVariants.{NoSuchPath, ParentNotObject, MissingCore}
 use Rattle.world_build.specs.Nodes.{loaded}

@@ -5,7 +5,12 @@ use Rattle.std.proofs.lemmas.Grind.{common_steps}
 use Rattle.self_terms.specs.declared.nodes.Node.{Node}
 use Rattle.self_terms.specs.declared.nodes.Node.TheVariants as nodes
 use Rattle.self_terms.specs.declared.nodes.Place.{Place}
+use Rattle.self_terms.specs.declared.values.Datum.{Datum as Value}
+use Rattle.self_terms.specs.declared.values.Datum.TheVariants.{Integer as integer, Object as object}
+use Rattle.self_terms.specs.declared.bodies.Body.{Body}
 use Rattle.self_terms.specs.Words.{IsSmall}
+use Rattle.self_terms.specs.Bodies.{change_body, changed, add_node, add_argument, add_local, with_name, sought, is_block, body_at}
+use Rattle.self_terms.specs.Depths.{one_if}
 use Rattle.self_grammar.specs.declared.signs.Spot.{Spot}
 use Rattle.self_grammar.specs.declared.pieces.Words.{Words}
 use Rattle.self_grammar.specs.declared.pieces.Words.TheVariants as words
@@ -26,25 +31,21 @@ use Rattle.self_grammar.specs.Refusal.{IsText}
 use Rattle.self_grammar.proofs.Balance.{world_balanced, world_integers}
 use Rattle.self_grammar.specs.Balance
 use Rattle.self_grammar.specs.Balance.{Entry, fresh, ends, admits, behind, only_if, walked_item, walked, OfSigns, OfNode, OfItem, OfItems}
-use Rattle.world_build.specs.declared.values.Value.{Value}
-use Rattle.world_build.specs.declared.values.Value.TheVariants.{Integer as integer, Object as object}
 use Rattle.world_build.specs.declared.values.Open.{Open}
 use Rattle.world_build.specs.declared.values.Open.TheVariants.{InObject as in_object, InBody as in_body}
 use Rattle.world_build.specs.declared.values.Held.{Held}
 use Rattle.world_build.specs.declared.values.Held.TheVariants.{Nothing as nothing, Data as value, Code as body}
 use Rattle.world_build.specs.declared.slots.Slot.{Slot}
-use Rattle.world_build.specs.declared.bodies.Body.{Body}
 use Rattle.world_build.specs.declared.refusals.BuildRefusal.{BuildRefusal}
 use Rattle.world_build.specs.declared.refusals.BuildRefusal.TheVariants.{ParentNotObject}
 use Rattle.world_build.specs.declared.loading.Loading.{Loading}
 use Rattle.world_build.specs.Names.{core_names, with_words, word_number}
-use Rattle.world_build.specs.Bodies.{change_body, changed, add_node, add_argument, add_local, with_name, sought, is_block, body_at}
 use Rattle.world_build.specs.Loading.{begun, place, root, further, followed, holding, is_object, innermost, body_in, opened, with_body, closed, with_closed, with_string, at_object, slots_for, add_slots, local_for, placed_in, name_body, with_slot, may_be_parent, is_parent, argument_in, with_argument, with_waiting}
 use Rattle.world_build.specs.Nodes.{byte, selector, reading, storing, implied, message, found, node_of, beside, at_innermost, with_node, take_item}
 use Rattle.world_build.specs.Nodes
 use Rattle.world_build.specs.Worlds.{World}
 use Rattle.world_build.specs.Worlds
-use Rattle.world_build.specs.Soundness.{one_if, IsSound}
+use Rattle.world_build.specs.Soundness.{IsSound}
 use Rattle.world_build.proofs.Growing.{Fits, Growing, Shape, both, fine_total, le_of, total}
 use Rattle.world_build.proofs.Standing.{Stands, kinds_on, none_open, stands_body, stands_closed_body, stands_closed_object, stands_node, stands_object, stands_on}
 

@@ -3,9 +3,11 @@ use Rattle.std.specs.Prelude.{◌≡◌, ℕ, zero, suc, ℤ, Bool, true, false,
 use Rattle.std.specs.List.{list_any}
 use Rattle.std.proofs.Common.{sym, subst, inl, inr}
 use Rattle.std.proofs.lemmas.Bool.{cases_Bool}
-use Rattle.self_terms.specs.Words.{IsSmall}
 use Rattle.self_terms.specs.declared.nodes.Node.{Node}
 use Rattle.self_terms.specs.declared.nodes.Place.{Place}
+use Rattle.self_terms.specs.declared.values.Datum.{Datum as Value}
+use Rattle.self_terms.specs.declared.values.Datum.TheVariants.{Integer as integer, Object as object, Nil as nil}
+use Rattle.self_terms.specs.Words.{IsSmall}
 use Rattle.self_grammar.specs.declared.signs.Spot.{Spot}
 use Rattle.self_grammar.specs.declared.pieces.Made.{Made}
 use Rattle.self_grammar.specs.declared.pieces.TextNode.{TextNode}
@@ -15,8 +17,6 @@ use Rattle.self_grammar.specs.declared.pieces.SlotForm.TheVariants as form
 use Rattle.self_grammar.specs.declared.pieces.Words.{Words}
 use Rattle.self_grammar.specs.declared.pieces.Item.{Item}
 use Rattle.self_grammar.specs.declared.pieces.Item.TheVariants as items
-use Rattle.world_build.specs.declared.values.Value.{Value}
-use Rattle.world_build.specs.declared.values.Value.TheVariants.{Integer as integer, Object as object, Nil as nil}
 use Rattle.world_build.specs.declared.values.Open.{Open}
 use Rattle.world_build.specs.declared.values.Open.TheVariants.{InObject as in_object, InBody as in_body}
 use Rattle.world_build.specs.declared.values.Held.{Held}

@@ -2,7 +2,6 @@ pub mod Names
 pub mod Known
 pub mod Slots
 pub mod Things
-pub mod Bodies
 pub mod Loading
 pub mod Nodes
 pub mod Soundness

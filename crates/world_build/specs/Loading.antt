@@ -3,6 +3,10 @@
 -- have, and what is refused are this project's own rules.
 use Rattle.std.specs.Prelude.{ℕ, zero, suc, ◌+◌, Bool, true, false, ◌&&◌, not, nat_eq, nat_le, if◌then◌else◌, Option, None, Some, Result, Ok, Err, List, [], ◌∷◌, ◌++◌, length, slice_get, slice_range}
 use Rattle.self_terms.specs.declared.nodes.Place.{Place}
+use Rattle.self_terms.specs.declared.values.Datum.{Datum as Value}
+use Rattle.self_terms.specs.declared.values.Datum.TheVariants.{Integer as integer, Object as object, Nil as nil}
+use Rattle.self_terms.specs.declared.bodies.Local.{Local}
+use Rattle.self_terms.specs.Bodies.{changed, add_argument, add_local, with_name}
 use Rattle.self_tokens.specs.Texts.{unescaped}
 use Rattle.self_grammar.specs.declared.signs.Spot.{Spot}
 use Rattle.self_grammar.specs.declared.pieces.Words.{Words}
@@ -11,8 +15,6 @@ use Rattle.self_grammar.specs.declared.pieces.SlotForm.TheVariants as form
 use Rattle.self_grammar.specs.declared.pieces.Item.{Item}
 use Rattle.self_grammar.specs.declared.pieces.Item.TheVariants as items
 use Rattle.world_build.specs.declared.cores.CoreName.TheVariants.{Nil as nil_name}
-use Rattle.world_build.specs.declared.values.Value.{Value}
-use Rattle.world_build.specs.declared.values.Value.TheVariants.{Integer as integer, Object as object, Nil as nil}
 use Rattle.world_build.specs.declared.values.Open.{Open}
 use Rattle.world_build.specs.declared.values.Open.TheVariants.{InObject as in_object, InBody as in_body}
 use Rattle.world_build.specs.declared.values.Held.{Held}
@@ -20,13 +22,11 @@ use Rattle.world_build.specs.declared.values.Held.TheVariants.{Nothing as nothin
 use Rattle.world_build.specs.declared.slots.Content.TheVariants.{Constant as constant, Assignable as assignable, Assignment as assignment, Parent as parent, Method as method}
 use Rattle.world_build.specs.declared.slots.Slot.{Slot}
 use Rattle.world_build.specs.declared.things.Thing.TheVariants.{Plain as plain, Text as string}
-use Rattle.world_build.specs.declared.bodies.Local.{Local}
 use Rattle.world_build.specs.declared.refusals.BuildRefusal.{BuildRefusal}
 use Rattle.world_build.specs.declared.refusals.BuildRefusal.TheVariants.{NoSuchPath, ParentNotObject}
 use Rattle.world_build.specs.declared.loading.Loading.{Loading}
 use Rattle.world_build.specs.Names.{with_world_texts, number_of, lobby_text, core_text, with_words, word_number}
 use Rattle.world_build.specs.Things.{own_data, change_thing, is_string}
-use Rattle.world_build.specs.Bodies.{changed, add_argument, add_local, with_name}
 
 -- before the first item: the lobby is open, and counts as an object
 abbrev pub begun : List (List ℕ) → Loading

@@ -4,6 +4,9 @@ use Rattle.self_terms.specs.declared.nodes.Node.{Node}
 use Rattle.self_terms.specs.declared.nodes.Node.TheVariants as nodes
 use Rattle.self_terms.specs.declared.nodes.Place.{Place}
 use Rattle.self_terms.specs.declared.nodes.Selector.{Selector}
+use Rattle.self_terms.specs.declared.values.Datum.TheVariants.{Integer as integer, Object as object}
+use Rattle.self_terms.specs.declared.bodies.Body.{Body}
+use Rattle.self_terms.specs.Bodies.{changed, add_node, Entry, entries_of, sought, number_of, is_block, body_at}
 use Rattle.self_grammar.specs.declared.pieces.Words.{Words}
 use Rattle.self_grammar.specs.declared.pieces.Words.TheVariants.{One}
 use Rattle.self_grammar.specs.declared.pieces.Made.{Made}
@@ -13,14 +16,11 @@ use Rattle.self_grammar.specs.declared.pieces.TextNode.{TextNode}
 use Rattle.self_grammar.specs.declared.pieces.TextNode.TheVariants as text
 use Rattle.self_grammar.specs.declared.pieces.Item.{Item}
 use Rattle.self_grammar.specs.declared.pieces.Item.TheVariants as items
-use Rattle.world_build.specs.declared.values.Value.TheVariants.{Integer as integer, Object as object}
 use Rattle.world_build.specs.declared.values.Open.{Open}
 use Rattle.world_build.specs.declared.values.Open.TheVariants.{InObject as in_object, InBody as in_body}
-use Rattle.world_build.specs.declared.bodies.Body.{Body}
 use Rattle.world_build.specs.declared.refusals.BuildRefusal.{BuildRefusal}
 use Rattle.world_build.specs.declared.loading.Loading.{Loading}
 use Rattle.world_build.specs.Names.{with_words, word_number}
-use Rattle.world_build.specs.Bodies.{changed, add_node, Entry, entries_of, sought, number_of, is_block, body_at}
 use Rattle.world_build.specs.Loading.{place, root, further, followed, holding, is_object, innermost, body_in, opened, with_closed, with_string, slot_ended, with_argument, with_waiting}
 
 abbrev pub or_outer : Option ℕ → ℕ → Option (ℕ × ℕ) → Option (ℕ × ℕ)

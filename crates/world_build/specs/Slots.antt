@@ -1,7 +1,7 @@
 -- Slots of an object: a list, each name once.
 use Rattle.std.specs.Prelude.{ℕ, nat_eq, Bool, if◌then◌else◌, Option, None, Some, List, [], ◌∷◌, ◌++◌}
 use Rattle.std.specs.List.{list_any}
-use Rattle.world_build.specs.declared.values.Value.{Value}
+use Rattle.self_terms.specs.declared.values.Datum.{Datum as Value}
 use Rattle.world_build.specs.declared.slots.Content.{Content}
 use Rattle.world_build.specs.declared.slots.Content.TheVariants.{Constant as constant, Assignable as assignable, Assignment as assignment, Parent as parent, Method as method}
 use Rattle.world_build.specs.declared.slots.Slot.{Slot}

@@ -1,6 +1,6 @@
 -- Objects and strings by their numbers.
 use Rattle.std.specs.Prelude.{ℕ, Bool, true, false, Option, None, Some, List, slice_set}
-use Rattle.world_build.specs.declared.values.Value.{Value}
+use Rattle.self_terms.specs.declared.values.Datum.{Datum as Value}
 use Rattle.world_build.specs.declared.slots.Content.{Content}
 use Rattle.world_build.specs.declared.slots.Slot.{Slot}
 use Rattle.world_build.specs.declared.things.Thing.{Thing}

@@ -1,13 +1,13 @@
 -- The world of a text: what its items built, with the fixed strings and the core objects.
 use Rattle.std.specs.Prelude.{ℕ, if◌then◌else◌, Option, None, Some, Result, Ok, Err, List, [], ◌∷◌, ◌++◌, length, map, slice_get, codes}
 use Rattle.self_terms.specs.declared.values.BodyId.{BodyId}
+use Rattle.self_terms.specs.declared.bodies.Body.{Body}
 use Rattle.self_grammar.specs.declared.pieces.Item.{Item}
 use Rattle.world_build.specs.declared.cores.CoreName.{CoreName}
 use Rattle.world_build.specs.declared.slots.Content.{Content}
 use Rattle.world_build.specs.declared.slots.Content.TheVariants.{Constant as constant, Method as method}
 use Rattle.world_build.specs.declared.things.Thing.{Thing}
 use Rattle.world_build.specs.declared.things.Thing.TheVariants.{Text as string}
-use Rattle.world_build.specs.declared.bodies.Body.{Body}
 use Rattle.world_build.specs.declared.refusals.BuildRefusal.{BuildRefusal}
 use Rattle.world_build.specs.declared.refusals.BuildRefusal.TheVariants.{MissingCore}
 use Rattle.world_build.specs.declared.loading.Loading.{Loading}

@@ -1,7 +1,7 @@
 // The items of a text, one after the other.
 ghost use Rattle.std.specs.Prelude.{◌≡◌, ◌≢◌, ◌-◌, ◌<◌, length, IfErr, OnOk, Ok, Err};
+ghost use Rattle.self_terms.specs.declared.values.Datum.TheVariants.{Object as object};
 ghost use Rattle.world_build.specs.declared.refusals.BuildRefusal.TheVariants.{OutOfMemory};
-ghost use Rattle.world_build.specs.declared.values.Value.TheVariants.{Object as object};
 ghost use Rattle.world_build.specs.Loading.{opened, holding, with_string};
 ghost use Rattle.world_build.specs.Nodes.{loaded};
 ghost use Rattle.world_build.specs.Kinds.{openings};
@@ -11,8 +11,9 @@ use crate::kinds::next_kind;
 use crate::lists::Stack;
 use crate::loading::Loading;
 use crate::refusals::BuildRefusal;
-use crate::values::{Held, Value};
+use crate::values::Held;
 use self_grammar::Item;
+use self_terms::Datum;
 use std::alloc::{AllocError, Global};
 
 impl Loading {
@@ -41,7 +42,7 @@ impl Loading {
     {
         let object = self.things.len() as u32;
         self.add_string(alloc, bytes, start, end)?;
-        self.held = Held::Data(Value::Object(object));
+        self.held = Held::Data(Datum::Object(object));
         Ok(())
     }
 
@@ -75,7 +76,7 @@ impl Loading {
                 Ok(())
             }
             Item::Integer(int) => {
-                self.held = Held::Data(Value::Integer(int));
+                self.held = Held::Data(Datum::Integer(int));
                 Ok(())
             }
             Item::Text { start, end } => {

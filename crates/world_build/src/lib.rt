@@ -1,20 +1,18 @@
 // Worlds: the objects and bodies of a text.
 //
 // Model: `specs/Loading.antt` and `specs/Nodes.antt` say what each item of a text does to what was read before it, over names
-// (`specs/Names.antt`), slots and objects (`specs/Slots.antt`, `specs/Things.antt`) and bodies (`specs/Bodies.antt`);
+// (`specs/Names.antt`), slots and objects (`specs/Slots.antt`, `specs/Things.antt`) and bodies (`specs/Bodies.antt` of self_terms);
 // `specs/Worlds.antt` says what world the items of a whole text make, or why they make none. `specs/Known.antt`,
 // `specs/Kinds.antt` and `specs/Steps.antt` are for private functions alone.
 // Promise: `load` gives exactly that world or that refusal, or wants memory. An item is looked at twice.
 #![tactic(auto)]
 
-mod bodies;
 mod cores;
 mod items;
 mod kinds;
 mod lexicon;
 mod lists;
 mod loading;
-mod locals;
 mod members;
 mod nodes;
 mod refusals;
@@ -23,11 +21,8 @@ mod things;
 mod values;
 mod worlds;
 
-pub use bodies::{Bodies, Body, Local};
 pub use cores::CoreName;
-pub use lists::Row;
 pub use refusals::BuildRefusal;
 pub use slots::{Content, Slot, Slots};
 pub use things::{Bytes, Thing, Things};
-pub use values::Value;
 pub use worlds::{World, load};

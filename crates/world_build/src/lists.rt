@@ -1,53 +1,9 @@
-// Lists that grow at their end, and stacks, which contracts see from the top.
-ghost use Rattle.std.specs.Prelude.{◌≡◌, ◌++◌, ◌∷◌, [], length, slice_get, OnOk, MatchOption};
+// Stacks, which contracts see from the top.
+ghost use Rattle.std.specs.Prelude.{◌≡◌, ◌∷◌, [], length, slice_get, OnOk, MatchOption};
 ghost use Rattle.std.specs.Option.{option_copied};
 
 use std::alloc::{AllocError, Global};
 use std::marker::Model;
-
-/// A list that grows at its end.
-#[derive(Drop)]
-pub struct Row<T> {
-    items: Vec<T>,
-}
-
-impl<T> Model for Row<T> {
-    ghost use Rattle.std.specs.Prelude.{List};
-    ghost use Rattle.std.specs.Coded.{coded_list};
-
-    ghost Value = { List T };
-
-    ghost coded = { coded_list T.code };
-
-    ghost view = { λ r. r.items.items };
-}
-
-impl<T> Row<T> {
-    /// A list without items. Takes no memory.
-    pub(crate) fn open(alloc: Global) -> Row<T>
-        ensures { result ≡ [] }
-    {
-        Row {
-            items: Vec::new(alloc),
-        }
-    }
-
-    pub fn as_slice(&self) -> &[T]
-        ensures { result.now ≡ self.now }
-    {
-        self.items.as_slice()
-    }
-}
-
-impl<T: Drop> Row<T> {
-    /// One item more at the end.
-    pub(crate) fn push(&mut self, item: T) -> Result<(), AllocError>
-        ensures { OnOk result (self.new ≡ self.old ++ item ∷ []) }
-    {
-        self.items.push(item)?;
-        Ok(())
-    }
-}
 
 // A stack that contracts see as a list, its top first.
 #[derive(Drop)]

@@ -5,16 +5,15 @@ ghost use Rattle.world_build.specs.Loading.{begun, place, data_of, root, plain_o
 ghost use Rattle.self_tokens.specs.Texts.{unescaped};
 ghost use Rattle.world_build.specs.Steps.{HasRoom};
 
-use crate::bodies::{Bodies, Body};
 use crate::cores::CoreName;
 use crate::lexicon::Lexicon;
-use crate::lists::{Row, Stack};
+use crate::lists::Stack;
 use crate::refusals::BuildRefusal;
 use crate::slots::Slots;
 use crate::things::{Bytes, Thing, Things};
-use crate::values::{Held, Open, Value};
+use crate::values::{Held, Open};
 use self_grammar::Spot;
-use self_terms::{Names, NodeList, Place, PlaceList};
+use self_terms::{Body, BodyList, Datum, Names, NodeList, Place, PlaceList, Row};
 use self_tokens::unescape;
 use std::alloc::{AllocError, Global};
 use std::mem;
@@ -25,7 +24,7 @@ use std::mem;
 pub(crate) struct Loading {
     pub names: Lexicon,
     pub things: Things,
-    pub bodies: Bodies,
+    pub bodies: BodyList,
     pub around: Stack<Open>,
     pub held: Held,
     pub waiting: Row<u32>,
@@ -44,14 +43,14 @@ pub(crate) fn place(spot: Spot) -> Place
 }
 
 // What a value is, where it is an object and isn't nil.
-fn plain_object(value: Option<Value>) -> Option<u32>
+fn plain_object(value: Option<Datum>) -> Option<u32>
     ensures { result ≡ plain_object value }
 {
     match value {
         None => None,
-        Some(Value::Integer(_)) => None,
-        Some(Value::Object(object)) => Some(object),
-        Some(Value::Nil) => None,
+        Some(Datum::Integer(_)) => None,
+        Some(Datum::Object(object)) => Some(object),
+        Some(Datum::Nil) => None,
     }
 }
 
@@ -100,7 +99,7 @@ impl Loading {
         Ok(Loading {
             names,
             things,
-            bodies: Bodies::open(alloc),
+            bodies: BodyList::open(alloc),
             around,
             held: Held::Nothing,
             waiting: Row::open(alloc),
@@ -116,27 +115,27 @@ impl Loading {
     }
 
     // The first name of a path is `lobby`, or names data of the lobby.
-    pub fn root(&self, name: u32) -> Option<Value>
+    pub fn root(&self, name: u32) -> Option<Datum>
         ensures { result ≡ root self.now name }
     {
         if name == self.names.lobby() {
-            return Some(Value::Object(0));
+            return Some(Datum::Object(0));
         }
         self.things.own_data(0, name)
     }
 
     // What a value is, where it is an object; nil is the lobby's `nil`.
-    pub fn object_in(&self, value: Value) -> Option<u32>
+    pub fn object_in(&self, value: Datum) -> Option<u32>
         ensures { result ≡ object_in self.now value }
     {
         match value {
-            Value::Integer(_) => None,
-            Value::Object(object) => Some(object),
-            Value::Nil => { plain_object(self.things.own_data(0, self.names.core(CoreName::Nil))) }
+            Datum::Integer(_) => None,
+            Datum::Object(object) => Some(object),
+            Datum::Nil => { plain_object(self.things.own_data(0, self.names.core(CoreName::Nil))) }
         }
     }
 
-    fn data_at(&self, object: Option<u32>, name: u32) -> Option<Value>
+    fn data_at(&self, object: Option<u32>, name: u32) -> Option<Datum>
         ensures { result ≡ data_at self.now object name }
     {
         match object {
@@ -146,7 +145,7 @@ impl Loading {
     }
 
     // A further name names data of what was reached.
-    pub fn further(&self, name: u32) -> Option<Value>
+    pub fn further(&self, name: u32) -> Option<Datum>
         ensures { result ≡ further self.now self.now.held name }
     {
         match self.held {
@@ -156,7 +155,7 @@ impl Loading {
         }
     }
 
-    pub fn follow(&mut self, spot: Spot, value: Option<Value>) -> Result<(), BuildRefusal>
+    pub fn follow(&mut self, spot: Spot, value: Option<Datum>) -> Result<(), BuildRefusal>
         ensures taken { OnOk result (followed self.old spot value ≡ Ok self.new) }
         ensures refused { IfErr result (λ e. e ≢ OutOfMemory → followed self.old spot value ≡ Err e) }
     {
@@ -202,7 +201,7 @@ impl Loading {
         match self.around.pop() {
             None => {}
             Some(Open::InObject(object)) => {
-                self.held = Held::Data(Value::Object(object));
+                self.held = Held::Data(Datum::Object(object));
                 return;
             }
             Some(Open::InBody(body)) => {

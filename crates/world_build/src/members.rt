@@ -5,22 +5,22 @@ ghost use Rattle.world_build.specs.declared.refusals.BuildRefusal.TheVariants.{O
 ghost use Rattle.world_build.specs.Loading.{innermost, at_object, value_in, body_number, slots_for, add_slots, local_for, placed_in, name_body, with_slot, may_be_parent, is_parent, slot_ended, argument_in, with_argument, with_waiting};
 ghost use Rattle.world_build.specs.Steps.{HasRoom};
 
-use crate::bodies::Local;
 use crate::loading::{Loading, place};
 use crate::refusals::BuildRefusal;
 use crate::slots::{Content, Slot};
-use crate::values::{Held, Open, Value};
+use crate::values::{Held, Open};
 use self_grammar::{SlotForm, Spot, Words};
+use self_terms::{Datum, Local};
 use std::alloc::{AllocError, Global};
 
 // What a slot holds that ends here.
-fn value_in(held: Held) -> Value
+fn value_in(held: Held) -> Datum
     ensures { result ≡ value_in held }
 {
     match held {
-        Held::Nothing => Value::Nil,
+        Held::Nothing => Datum::Nil,
         Held::Data(value) => value,
-        Held::Code(_) => Value::Nil,
+        Held::Code(_) => Datum::Nil,
     }
 }
 
@@ -51,7 +51,7 @@ fn local_for(name: u32, form: SlotForm, held: Held) -> Local
         SlotForm::Bare { setter } => Local {
             name,
             setter: Some(setter),
-            initial: Value::Nil,
+            initial: Datum::Nil,
         },
         SlotForm::Parent => Local {
             name,
@@ -61,7 +61,7 @@ fn local_for(name: u32, form: SlotForm, held: Held) -> Local
         SlotForm::Method => Local {
             name,
             setter: None,
-            initial: Value::Nil,
+            initial: Datum::Nil,
         },
     }
 }
@@ -89,7 +89,7 @@ impl Loading {
         &mut self,
         object: u32,
         name: u32,
-        value: Value,
+        value: Datum,
         setter: u32,
     ) -> Result<(), AllocError>
         ensures { OnOk result (self.new ≡ at_object object (record { name = setter; content = Assignment }) (at_object object (record { name = name; content = Assignable value }) self.old)) }
@@ -114,7 +114,7 @@ impl Loading {
                 Ok(())
             }
             SlotForm::Bare { setter } => {
-                self.add_assignable(object, name, Value::Nil, setter)?;
+                self.add_assignable(object, name, Datum::Nil, setter)?;
                 Ok(())
             }
             SlotForm::Parent => {
@@ -176,9 +176,9 @@ impl Loading {
     {
         match held {
             Held::Nothing => true,
-            Held::Data(Value::Integer(_)) => false,
-            Held::Data(Value::Object(object)) => !self.things.is_string(object),
-            Held::Data(Value::Nil) => true,
+            Held::Data(Datum::Integer(_)) => false,
+            Held::Data(Datum::Object(object)) => !self.things.is_string(object),
+            Held::Data(Datum::Nil) => true,
             Held::Code(_) => true,
         }
     }

@@ -1,6 +1,6 @@
 // The nodes of a body.
 ghost use Rattle.std.specs.Prelude.{◌≡◌, IfOk, OnOk};
-ghost use Rattle.world_build.specs.Bodies.{sought};
+ghost use Rattle.self_terms.specs.Bodies.{sought};
 ghost use Rattle.world_build.specs.Nodes.{found, byte, selector, reading, storing, implied, message, returning, node_of, beside, at_innermost, with_node};
 ghost use Rattle.world_build.specs.Loading.{innermost};
 ghost use Rattle.world_build.specs.Steps.{HasRoom};

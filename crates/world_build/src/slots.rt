@@ -2,8 +2,8 @@
 ghost use Rattle.std.specs.Prelude.{◌≡◌, [], ℕ, length, slice_get, take, OnOk, Some, None};
 ghost use Rattle.world_build.specs.Slots.{slot_of, add_slot, data_in};
 
-use crate::values::Value;
 use indexmap::IndexMap;
+use self_terms::Datum;
 use std::alloc::{AllocError, Global};
 use std::marker::Model;
 
@@ -11,10 +11,10 @@ use std::marker::Model;
 /// its number.
 #[derive(Clone, Copy, Debug, PartialEq, Eq)]
 pub enum Content {
-    Constant(Value),
-    Assignable(Value),
+    Constant(Datum),
+    Assignable(Datum),
     Assignment,
-    Parent(Value),
+    Parent(Datum),
     Method(u32),
 }
 
@@ -98,7 +98,7 @@ impl Slots {
 }
 
 // A path goes through data and parents, not through methods and assignment slots.
-pub(crate) fn data_in(content: Option<Content>) -> Option<Value>
+pub(crate) fn data_in(content: Option<Content>) -> Option<Datum>
     ensures { result ≡ data_in content }
 {
     match content {

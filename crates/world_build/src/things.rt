@@ -3,7 +3,7 @@ ghost use Rattle.std.specs.Prelude.{◌≡◌, ◌++◌, ◌∷◌, [], length, 
 ghost use Rattle.world_build.specs.Things.{own_slot, own_data, change_thing, is_string, is_plain};
 
 use crate::slots::{Content, Slot, Slots, data_in};
-use crate::values::Value;
+use self_terms::Datum;
 use std::alloc::{AllocError, Global};
 use std::marker::Model;
 
@@ -99,7 +99,7 @@ impl Things {
     }
 
     // The value of the own slot of an object, where it is data or a parent.
-    pub(crate) fn own_data(&self, object: u32, name: u32) -> Option<Value>
+    pub(crate) fn own_data(&self, object: u32, name: u32) -> Option<Datum>
         ensures { result ≡ own_data (slice_get self.now object) name }
     {
         data_in(self.own_slot(object, name))

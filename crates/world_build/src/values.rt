@@ -1,13 +1,6 @@
-// Values while a text is read.
+// What is open and what is held while a text is read.
 
-/// A value of a slot or of a local: an integer, an object by its number, or the core object nil, whose number is told by
-/// the whole text.
-#[derive(Clone, Copy, Debug, PartialEq, Eq)]
-pub enum Value {
-    Integer(i32),
-    Object(u32),
-    Nil,
-}
+use self_terms::Datum;
 
 /// What is open: an object or a body whose text isn't at its end, by its number.
 #[derive(Clone, Copy, Debug, PartialEq, Eq)]
@@ -20,6 +13,6 @@ pub(crate) enum Open {
 #[derive(Clone, Copy, Debug, PartialEq, Eq)]
 pub(crate) enum Held {
     Nothing,
-    Data(Value),
+    Data(Datum),
     Code(u32),
 }

@@ -1,23 +1,21 @@
 // Worlds.
 ghost use Rattle.std.specs.Prelude.{◌≡◌, ◌≢◌, ◌++◌, ◌∷◌, ◌+◌, ◌-◌, ◌<◌, ◌≤◌, [], length, map, option_map, slice_get, IfOk, IfErr, OnOk, Ok, Err, Some};
+ghost use Rattle.self_terms.specs.declared.bodies.Body.{Body};
 ghost use Rattle.world_build.specs.declared.things.Thing.TheVariants.{Text as string};
-ghost use Rattle.world_build.specs.declared.bodies.Body.{Body};
 ghost use Rattle.world_build.specs.declared.refusals.BuildRefusal.TheVariants.{OutOfMemory};
 ghost use Rattle.world_build.specs.Names.{core_names};
 ghost use Rattle.world_build.specs.Worlds.{fixed_strings, plain_number, core_in, core_object, cores, world_of, built, method_in, lobby_method};
 ghost use Rattle.world_build.specs.Steps.{HasRoom};
 
-use crate::bodies::{Bodies, Body};
 use crate::cores::{CORE_NAMES, CoreName};
 use crate::items::load_items;
 use crate::kinds::kinds_of;
-use crate::lists::Row;
 use crate::loading::Loading;
 use crate::refusals::BuildRefusal;
 use crate::slots::Content;
 use crate::things::{Bytes, Thing, Things};
 use self_grammar::Item;
-use self_terms::{BodyId, Name, Names, NodeList, PlaceList};
+use self_terms::{Body, BodyId, BodyList, Name, Names, NodeList, PlaceList, Row};
 use std::alloc::{AllocError, Global};
 use std::marker::Model;
 
@@ -58,7 +56,7 @@ pub struct World {
     names: Names,
     things: Things,
     objects: u32,
-    bodies: Bodies,
+    bodies: BodyList,
     size: u32,
     core: Row<u32>,
 }

@@ -3,8 +3,8 @@ use Rattle.std.specs.Prelude.{◌≡◌, ℕ, zero, suc, ◌+◌, ◌*◌, ◌/�
 use Rattle.std.proofs.Common.{ap, sym, ◌∙◌, inl, inr, arith, length-append}
 use Rattle.std.proofs.lemmas.Bool.{cases_order}
 use Rattle.std.proofs.lemmas.List.{drop-drop, drop_at, get_or-drop, get_or-append-add, length-map}
+use Rattle.self_terms.specs.declared.values.Datum.{Datum as Value}
 use Rattle.object_maps.specs.Slots.{slots_in}
-use Rattle.world_build.specs.declared.values.Value.{Value}
 use Rattle.world_build.specs.declared.slots.Slot.{Slot}
 use Rattle.world_build.specs.declared.things.Thing.{Thing}
 use Rattle.world_build.specs.declared.things.Thing.TheVariants.{Plain as plain, Text as string}

@@ -2,8 +2,8 @@
 use Rattle.std.specs.Prelude.{◌≡◌, ℕ, ◌+◌, ◌*◌, ◌≤◌, Ok, List, [], ◌∷◌, length, refl}
 use Rattle.std.specs.List.{cons_option}
 use Rattle.std.proofs.Common.{ap, arith}
+use Rattle.self_terms.specs.declared.values.Datum.{Datum as Value}
 use Rattle.self_grammar.specs.declared.pieces.Item.{Item}
-use Rattle.world_build.specs.declared.values.Value.{Value}
 use Rattle.world_build.specs.declared.slots.Content.{Content}
 use Rattle.world_build.specs.declared.slots.Content.TheVariants.{Constant as constant, Assignable as assignable, Assignment as assignment, Parent as parent, Method as method}
 use Rattle.world_build.specs.declared.slots.Slot.{Slot}

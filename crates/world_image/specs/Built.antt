@@ -1,7 +1,7 @@
 -- What is needed of a world to lay it out.
 use Rattle.std.specs.Prelude.{◌≡◌, ℕ, ◌≤◌, ℤ, Some, List, length, slice_get}
 use Rattle.self_terms.specs.Words.{IsSmall}
-use Rattle.world_build.specs.declared.values.Value.TheVariants.{Integer as integer}
+use Rattle.self_terms.specs.declared.values.Datum.TheVariants.{Integer as integer}
 use Rattle.world_build.specs.declared.slots.Slot.{Slot}
 use Rattle.world_build.specs.declared.things.Thing.TheVariants.{Plain as plain}
 use Rattle.world_build.specs.Slots.{data_in}

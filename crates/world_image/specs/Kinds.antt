@@ -1,12 +1,12 @@
 -- The map of an object of slots: each slot with what the map says of it. Constants, parents and methods stand in the map;
 -- an assignable slot and its assignment slot name the word of the object that holds the data, numbered from 0.
 use Rattle.std.specs.Prelude.{ℕ, ◌+◌, ◌-◌, List, [], ◌∷◌, slice_index_or}
+use Rattle.self_terms.specs.declared.values.Datum.{Datum as Value}
+use Rattle.self_terms.specs.declared.values.Datum.TheVariants.{Integer as integer, Object as object, Nil as nil}
 use Rattle.self_terms.specs.Words.{word_of}
 use Rattle.object_maps.specs.declared.maps.SlotKind.{SlotKind}
 use Rattle.object_maps.specs.declared.maps.SlotKind.TheVariants as kind
 use Rattle.object_maps.specs.Slots.{Slots}
-use Rattle.world_build.specs.declared.values.Value.{Value}
-use Rattle.world_build.specs.declared.values.Value.TheVariants.{Integer as integer, Object as object, Nil as nil}
 use Rattle.world_build.specs.declared.slots.Content.{Content}
 use Rattle.world_build.specs.declared.slots.Content.TheVariants.{Constant as constant, Assignable as assignable, Assignment as assignment, Parent as parent, Method as method}
 use Rattle.world_build.specs.declared.slots.Slot.{Slot}

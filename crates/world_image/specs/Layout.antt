@@ -2,7 +2,7 @@
 -- An object of slots is its map, its number and a word for each assignable slot; a string is its map, its number, its
 -- size and its bytes, four to a word. The layout is this project's own.
 use Rattle.std.specs.Prelude.{ℕ, ◌+◌, ◌*◌, ◌/◌, Option, None, Some, List, [], ◌∷◌, length, take, filter_map}
-use Rattle.world_build.specs.declared.values.Value.{Value}
+use Rattle.self_terms.specs.declared.values.Datum.{Datum as Value}
 use Rattle.world_build.specs.declared.slots.Content.{Content}
 use Rattle.world_build.specs.declared.slots.Content.TheVariants.{Constant as constant, Assignable as assignable, Assignment as assignment, Parent as parent, Method as method}
 use Rattle.world_build.specs.declared.slots.Slot.{Slot}

@@ -1,7 +1,7 @@
 -- How the maps and words of a world stand for its objects, told object by object.
 use Rattle.std.specs.Prelude.{◌≡◌, ℕ, ◌+◌, ◌*◌, ◌/◌, ◌<◌, Some, List, [], ◌∷◌, length, take, drop, slice_get, slice_index_or}
+use Rattle.self_terms.specs.declared.values.Datum.{Datum as Value}
 use Rattle.object_maps.specs.Slots.{slots_in}
-use Rattle.world_build.specs.declared.values.Value.{Value}
 use Rattle.world_build.specs.declared.slots.Slot.{Slot}
 use Rattle.world_build.specs.declared.things.Thing.{Thing}
 use Rattle.world_build.specs.declared.things.Thing.TheVariants.{Plain as plain, Text as string}

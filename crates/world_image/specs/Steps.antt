@@ -1,8 +1,8 @@
 -- What the code's functions give on the way. Used by contracts of private functions alone.
 use Rattle.std.specs.Prelude.{◌≡◌, ℕ, ◌+◌, ◌≤◌, ℤ, Option, None, Some, List, [], ◌∷◌, length, slice_get}
 use Rattle.self_terms.specs.Words.{IsSmall}
-use Rattle.world_build.specs.declared.values.Value.{Value}
-use Rattle.world_build.specs.declared.values.Value.TheVariants.{Integer as integer}
+use Rattle.self_terms.specs.declared.values.Datum.{Datum as Value}
+use Rattle.self_terms.specs.declared.values.Datum.TheVariants.{Integer as integer}
 use Rattle.world_build.specs.declared.slots.Content.{Content}
 use Rattle.world_build.specs.declared.slots.Slot.{Slot}
 use Rattle.world_build.specs.declared.things.Thing.{Thing}

@@ -7,9 +7,9 @@ ghost use Rattle.world_image.specs.Steps.{references_from, IsSmallValue, IsSmall
 
 use crate::layout::{behind, reference};
 use object_maps::{Map, SlotKind};
-use self_terms::{BodyId, Name, Word, word_of_int};
+use self_terms::{BodyId, Datum, Name, Word, word_of_int};
 use std::alloc::{AllocError, Global};
-use world_build::{Content, Slots, Value, World};
+use world_build::{Content, Slots, World};
 
 // The reference to a core object, by its place among the core names.
 fn core_word(world: &World, references: &[Word], place: usize) -> Word
@@ -23,15 +23,15 @@ fn core_word(world: &World, references: &[Word], place: usize) -> Word
 }
 
 // The word of a value.
-pub fn value_word(world: &World, references: &[Word], value: Value) -> Word
+pub fn value_word(world: &World, references: &[Word], value: Datum) -> Word
     requires references { references.now ≡ references_from 0 world.now.things }
     requires small { IsSmallValue value }
     ensures { result ≡ value_word world.now value }
 {
     match value {
-        Value::Integer(int) => word_of_int(int),
-        Value::Object(object) => reference(world, references, object),
-        Value::Nil => core_word(world, references, 0),
+        Datum::Integer(int) => word_of_int(int),
+        Datum::Object(object) => reference(world, references, object),
+        Datum::Nil => core_word(world, references, 0),
     }
 }
 

@@ -1,5 +1,5 @@
 use Rattle.std.proofs.Common.{◌∙◌, sym, ap, Some}
-use Rattle.world_build.specs.Bodies.{sought}
+use Rattle.self_terms.specs.Bodies.{sought}
 use Rattle.world_build.proofs.OpenLemmas.{nothing_out, object_out, found_out, further_out}
 use Rattle.world_build.proofs.loading.Loading.found.Goals as goal
 

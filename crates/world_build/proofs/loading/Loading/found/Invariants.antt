@@ -1,5 +1,5 @@
 use Rattle.std.proofs.Common.{◌≡◌, drop}
-use Rattle.world_build.specs.Bodies.{sought}
+use Rattle.self_terms.specs.Bodies.{sought}
 use Rattle.world_build.specs.Nodes.{found}
 use Rattle.world_build.proofs.loading.Loading.found.Given as goal
 

@@ -1,6 +1,6 @@
 use Rattle.std.proofs.Common.{◌∙◌, sym}
-use Rattle.world_build.proofs.LocalLemmas.{assigned_behind, named_behind, named_before}
-use Rattle.world_build.proofs.locals.number_in.Goals as goal
+use Rattle.self_terms.proofs.LocalLemmas.{assigned_behind, named_behind, named_before}
+use Rattle.self_terms.proofs.locals.number_in.Goals as goal
 
 pub returns-then-assigning : goal.returns-then-assigning
 returns-then-assigning c = c.local_number.ensures ∙ assigned_behind c.args.name c.args.assigning c.args.body.now c.as_slice-arguments.result.now c.as_slice.result.now c.if-assigning.true c.as_slice-arguments.ensures c.as_slice.ensures

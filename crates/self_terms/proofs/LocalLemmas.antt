@@ -3,9 +3,9 @@ use Rattle.std.proofs.Common.{◌≡◌, ℕ, ◌+◌, Bool, true, false, List, 
 use Rattle.std.specs.Prelude.{Option, Some, None}
 use Rattle.std.proofs.lemmas.Bool.{cases_Bool}
 use Rattle.std.proofs.lemmas.List.{length-map}
-use Rattle.world_build.specs.declared.bodies.Local.{Local}
-use Rattle.world_build.specs.declared.bodies.Body.{Body}
-use Rattle.world_build.specs.Bodies.{Entry, argument_entry, local_entry, entries, is_named, is_set_by, sought, number_of}
+use Rattle.self_terms.specs.declared.bodies.Local.{Local}
+use Rattle.self_terms.specs.declared.bodies.Body.{Body}
+use Rattle.self_terms.specs.Bodies.{Entry, argument_entry, local_entry, entries, is_named, is_set_by, sought, number_of}
 
 some_none : (i : ℕ) → ◌≡◌ {A = Option ℕ} (Some i) None → ⊥
 some_none i e = cc

@@ -1,6 +1,6 @@
 // Where a name is a local of a body.
 ghost use Rattle.std.specs.Prelude.{◌≡◌, ◌+◌, ◌<◌, ◌^◌, length, map};
-ghost use Rattle.world_build.specs.Bodies.{entries, argument_entry, local_entry, is_named, is_setter, sought, number_of};
+ghost use Rattle.self_terms.specs.Bodies.{entries, argument_entry, local_entry, is_named, is_setter, sought, number_of};
 
 use crate::bodies::{Body, Local};
 

@@ -2,8 +2,8 @@
 use Rattle.std.specs.Prelude.{ℕ, ◌+◌, ◌-◌, nat_eq, Bool, true, false, if◌then◌else◌, Option, None, Some, List, [], ◌∷◌, ◌++◌, map, slice_get, slice_set}
 use Rattle.self_terms.specs.declared.nodes.Node.{Node}
 use Rattle.self_terms.specs.declared.nodes.Place.{Place}
-use Rattle.world_build.specs.declared.bodies.Local.{Local}
-use Rattle.world_build.specs.declared.bodies.Body.{Body}
+use Rattle.self_terms.specs.declared.bodies.Local.{Local}
+use Rattle.self_terms.specs.declared.bodies.Body.{Body}
 
 abbrev pub change_body : (Body → Body) → Option Body → List Body → ℕ → List Body
 change_body f None bodies at = bodies

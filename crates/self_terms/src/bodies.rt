@@ -1,11 +1,11 @@
 // The bodies of methods and blocks.
 ghost use Rattle.std.specs.Prelude.{◌≡◌, ◌++◌, ◌-◌, ◌<◌, ◌≤◌, ◌∷◌, [], length, slice_get, Some, OnOk};
-ghost use Rattle.world_build.specs.Bodies.{changed, add_node, add_argument, add_local, with_name, number_of, sought, entries_of, is_block, body_at};
+ghost use Rattle.self_terms.specs.Bodies.{changed, add_node, add_argument, add_local, with_name, number_of, sought, entries_of, is_block, body_at};
 
-use crate::lists::Row;
+use crate::lists::{NodeList, PlaceList, Row};
 use crate::locals::number_in;
-use crate::values::Value;
-use self_terms::{Node, NodeList, Place, PlaceList};
+use crate::nodes::{Node, Place};
+use crate::values::Datum;
 use std::alloc::{AllocError, Global};
 use std::marker::Model;
 
@@ -14,7 +14,7 @@ use std::marker::Model;
 pub struct Local {
     pub name: u32,
     pub setter: Option<u32>,
-    pub initial: Value,
+    pub initial: Datum,
 }
 
 /// A body: the name of its slot, none for a block's; the body around a block's; arguments and other locals, each in their
@@ -31,13 +31,13 @@ pub struct Body {
 
 /// The bodies by their numbers from 1.
 #[derive(Drop)]
-pub struct Bodies {
+pub struct BodyList {
     bodies: Vec<Body>,
 }
 
-impl Model for Bodies {
+impl Model for BodyList {
     ghost use Rattle.std.specs.Prelude.{List};
-    ghost use Rattle.world_build.specs.declared.bodies.Body.{Body};
+    ghost use Rattle.self_terms.specs.declared.bodies.Body.{Body};
 
     ghost Value = { List Body };
 
@@ -51,30 +51,33 @@ fn place_of(number: u32) -> usize
     (number as usize).saturating_sub(1)
 }
 
-impl Bodies {
-    // No bodies. Takes no memory.
-    pub(crate) fn open(alloc: Global) -> Bodies
+impl BodyList {
+    /// No bodies. Takes no memory.
+    pub fn open(alloc: Global) -> BodyList
         ensures { result ≡ [] }
     {
-        Bodies {
+        BodyList {
             bodies: Vec::new(alloc),
         }
     }
 
+    /// How many bodies there are.
     pub fn len(&self) -> usize
         ensures { result ≡ length self.now }
     {
         self.bodies.len()
     }
 
-    pub(crate) fn push(&mut self, body: Body) -> Result<(), AllocError>
+    /// One body more at the end.
+    pub fn push(&mut self, body: Body) -> Result<(), AllocError>
         ensures { OnOk result (self.new ≡ self.old ++ body ∷ []) }
     {
         self.bodies.push(body)?;
         Ok(())
     }
 
-    pub(crate) fn add_node(&mut self, body: u32, node: Node, place: Place) -> Result<(), AllocError>
+    /// One node more at the end of a body, and its place. A number behind the last changes nothing, here and below.
+    pub fn add_node(&mut self, body: u32, node: Node, place: Place) -> Result<(), AllocError>
         ensures { OnOk result (self.new ≡ changed (add_node node place) self.old body) }
     {
         let at = place_of(body);
@@ -87,7 +90,8 @@ impl Bodies {
         Ok(())
     }
 
-    pub(crate) fn add_argument(&mut self, body: u32, name: u32) -> Result<(), AllocError>
+    /// One argument more, behind those of a body.
+    pub fn add_argument(&mut self, body: u32, name: u32) -> Result<(), AllocError>
         ensures { OnOk result (self.new ≡ changed (add_argument name) self.old body) }
     {
         let at = place_of(body);
@@ -99,7 +103,8 @@ impl Bodies {
         Ok(())
     }
 
-    pub(crate) fn add_local(&mut self, body: u32, local: Local) -> Result<(), AllocError>
+    /// One local more, behind those of a body.
+    pub fn add_local(&mut self, body: u32, local: Local) -> Result<(), AllocError>
         ensures { OnOk result (self.new ≡ changed (add_local local) self.old body) }
     {
         let at = place_of(body);
@@ -111,7 +116,8 @@ impl Bodies {
         Ok(())
     }
 
-    pub(crate) fn set_name(&mut self, body: u32, name: u32)
+    /// The name of a body's slot.
+    pub fn set_name(&mut self, body: u32, name: u32)
         ensures { self.new ≡ changed (with_name name) self.old body }
     {
         let at = place_of(body);
@@ -122,8 +128,8 @@ impl Bodies {
         body.name = Some(name);
     }
 
-    // The body of a number.
-    pub(crate) fn at(&self, body: u32) -> &Body
+    /// The body of a number.
+    pub fn at(&self, body: u32) -> &Body
         requires given { 0 < body }
         requires within { body ≤ length self.now }
         ensures { slice_get self.now (body - 1) ≡ Some result.now }
@@ -131,16 +137,16 @@ impl Bodies {
         &self.bodies[place_of(body)]
     }
 
-    // The number of the first local of a body that has a name, or that a name assigns; arguments come first.
-    pub(crate) fn local(&self, body: u32, assigning: bool, name: u32) -> Option<usize>
+    /// The number of the first local of a body that has a name, or that a name assigns; arguments come first.
+    pub fn local(&self, body: u32, assigning: bool, name: u32) -> Option<usize>
         ensures { result ≡ number_of (sought assigning name) 0 (entries_of self.now body) }
     {
         let body = self.bodies.get(place_of(body))?;
         number_in(body, assigning, name)
     }
 
-    // Whether a body is a block's.
-    pub(crate) fn is_block(&self, body: Option<u32>) -> bool
+    /// Whether a body is a block's.
+    pub fn is_block(&self, body: Option<u32>) -> bool
         ensures { result ≡ is_block (body_at self.now body) }
     {
         let Some(body) = body else {
