@@ -6,7 +6,7 @@ use Rattle.self_grammar.specs.declared.pieces.Item.{Item}
 use Rattle.self_grammar.specs.Grammar as grammar
 use Rattle.self_grammar.specs.Spelling.{world}
 use Rattle.self_reader.specs.declared.texts.TheConstants.{LIMITS}
-use Rattle.self_reader.specs.Signs.{signs, names_after}
+use Rattle.self_signs.specs.Signs.{signs, names_after}
 use Rattle.self_reader.specs.Texts.{AreRead, known}
 use Rattle.world_build.specs.declared.refusals.BuildRefusal.{BuildRefusal}
 use Rattle.world_build.specs.Worlds.{World, built}

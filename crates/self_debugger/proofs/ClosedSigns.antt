@@ -9,7 +9,7 @@ use Rattle.self_tokens.specs.Kinds.{ends_operand}
 use Rattle.self_tokens.specs.Tokens.{token, tokens, tokens_from, from_piece}
 use Rattle.self_grammar.specs.declared.signs.Sign.{Sign}
 use Rattle.self_grammar.proofs.Refusals.{IsClosed}
-use Rattle.self_reader.specs.Signs.{signs, sign_of, names_after}
+use Rattle.self_signs.specs.Signs.{signs, sign_of, names_after}
 
 closed_more : (x : Sign) (xs : List Sign) → IsClosed xs → IsClosed (x ∷ xs)
 closed_more x [] c = absurd c

@@ -6,7 +6,7 @@ use Rattle.self_grammar.specs.Grammar as grammar
 use Rattle.self_grammar.proofs.Refusals.{one_world_refusal, refused_is_no_world, world_or_refusal}
 use Rattle.self_grammar.proofs.Theorem.{one_world}
 use Rattle.self_reader.specs.declared.texts.TheConstants.{LIMITS}
-use Rattle.self_reader.specs.Signs.{signs}
+use Rattle.self_signs.specs.Signs.{signs}
 use Rattle.self_reader.specs.Texts.{known}
 use Rattle.world_build.specs.declared.refusals.BuildRefusal.{BuildRefusal}
 use Rattle.world_build.specs.Worlds.{World}

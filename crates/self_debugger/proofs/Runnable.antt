@@ -6,7 +6,7 @@ use Rattle.self_tokens.specs.Tokens.{tokens}
 use Rattle.source_model.specs.State.{Body}
 use Rattle.run_core.specs.Plain.{IsRunnable}
 use Rattle.self_reader.specs.declared.texts.TheConstants.{LIMITS}
-use Rattle.self_reader.specs.Signs.{signs, names_after}
+use Rattle.self_signs.specs.Signs.{signs, names_after}
 use Rattle.self_reader.specs.Texts.{known}
 use Rattle.world_build.specs.Names.{number_of}
 use Rattle.world_build.specs.Soundness.{IsSound}

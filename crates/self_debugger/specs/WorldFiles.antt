@@ -8,7 +8,7 @@ use Rattle.self_grammar.specs.Grammar as grammar
 use Rattle.self_grammar.specs.Spelling.{world, items_of}
 use Rattle.self_grammar.specs.Refusal.{IsText, IsRefused}
 use Rattle.self_reader.specs.declared.texts.TheConstants.{LIMITS}
-use Rattle.self_reader.specs.Signs.{signs, names_after}
+use Rattle.self_signs.specs.Signs.{signs, names_after}
 use Rattle.self_reader.specs.Texts.{known}
 use Rattle.source_model.specs.State.{Body}
 use Rattle.world_build.specs.declared.refusals.BuildRefusal.{BuildRefusal}

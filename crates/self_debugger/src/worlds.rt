@@ -5,7 +5,7 @@ ghost use Rattle.self_tokens.specs.Tokens.{tokens};
 ghost use Rattle.self_grammar.specs.Grammar.{World as Text};
 ghost use Rattle.self_grammar.specs.Spelling.{world};
 ghost use Rattle.self_reader.specs.declared.texts.TheConstants.{LIMITS};
-ghost use Rattle.self_reader.specs.Signs.{signs, names_after};
+ghost use Rattle.self_signs.specs.Signs.{signs, names_after};
 ghost use Rattle.self_reader.specs.Texts.{AreRead, known};
 ghost use Rattle.world_build.specs.Names.{number_of};
 ghost use Rattle.self_debugger.specs.WorldFiles.{WorldRead, run_body, main_of};

@@ -8,9 +8,9 @@ use Rattle.self_grammar.specs.Grammar as g
 use Rattle.self_grammar.specs.Spelling.{world, items_of}
 use Rattle.self_grammar.proofs.Few.{few_items}
 use Rattle.self_reader.specs.declared.texts.TheConstants.{LIMITS}
-use Rattle.self_reader.specs.Signs.{IsClosed, signs, sign_of, names_after}
+use Rattle.self_signs.specs.Signs.{IsClosed, signs, sign_of, names_after}
 use Rattle.self_reader.specs.Texts.{IsWhole, AreRead, known}
-use Rattle.self_reader.proofs.SignLaws.{tokens_few}
+use Rattle.self_signs.proofs.SignLaws.{tokens_few}
 
 pub whole : (ss : List Sign) → IsClosed ss → IsWhole ss
 whole [] h = h

@@ -12,11 +12,12 @@ use Rattle.self_grammar.specs.Grammar as g
 use Rattle.self_grammar.specs.Spelling as s
 use Rattle.self_grammar.proofs.Places as p
 use Rattle.self_grammar.proofs.Moves as m
-use Rattle.self_reader.specs.declared.code.Terminator.{Terminator}
-use Rattle.self_reader.specs.declared.code.Terminator.TheVariants.{Period, Paren, Bracket}
-use Rattle.self_reader.specs.declared.frames.At.TheVariants as at
-use Rattle.self_reader.specs.declared.frames.Frame.TheVariants as f
-use Rattle.self_reader.specs.CodeTurns.{simply, operator_node, opened, implied_turn, body_end, delegate_turn, caret_turn, block_bar, bar_turn, empty_end, stopped, begun, same_role, operator_turn, keyword_turn, part_turn, capital_turn, unwound, terminated, gone_on, delegate_operator, behind_delegate, ended_turn, owe, finish, message_node}
+use Rattle.code_reader.specs.declared.code.Terminator.{Terminator}
+use Rattle.code_reader.specs.declared.code.Terminator.TheVariants.{Period, Paren, Bracket}
+use Rattle.reader_states.specs.declared.frames.At.TheVariants as at
+use Rattle.reader_states.specs.declared.frames.Frame.TheVariants as f
+use Rattle.reader_states.specs.Turns.{simply}
+use Rattle.code_reader.specs.CodeTurns.{operator_node, opened, implied_turn, body_end, delegate_turn, caret_turn, block_bar, bar_turn, empty_end, stopped, begun, same_role, operator_turn, keyword_turn, part_turn, capital_turn, unwound, terminated, gone_on, delegate_operator, behind_delegate, ended_turn, owe, finish, message_node}
 use Rattle.self_reader.proofs.Shown.{Follows, message_in, code, hole, operand}
 
 abbrev pub terminator : m.Stop → Terminator

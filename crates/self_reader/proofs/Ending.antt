@@ -14,7 +14,7 @@ use Rattle.self_grammar.proofs.SlotMoves as v
 use Rattle.self_grammar.proofs.Reading.{State, move, step}
 use Rattle.self_grammar.proofs.Found.{run, then}
 use Rattle.self_grammar.proofs.Refused.{went_of}
-use Rattle.self_reader.specs.Signs.{is_last}
+use Rattle.self_signs.specs.Signs.{is_last}
 use Rattle.self_reader.specs.Texts.{IsWhole}
 
 abbrev pub Finishes : m.Place → Type 0

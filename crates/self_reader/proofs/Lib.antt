@@ -4,11 +4,8 @@ pub mod CodeFollows
 pub mod Ending
 pub mod Following
 pub mod LocalFollows
-pub mod NameLemmas
-pub mod NumberLaws
 pub mod Said
 pub mod SettlingLemmas
 pub mod Shown
-pub mod SignLaws
 pub mod SlotFollows
 pub mod Stepping

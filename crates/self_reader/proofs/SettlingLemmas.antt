@@ -10,7 +10,7 @@ use Rattle.self_grammar.specs.declared.pieces.Made.{Made}
 use Rattle.self_grammar.specs.declared.pieces.TextNode.TheVariants as nodes
 use Rattle.self_grammar.specs.Counts.{Limits, Breach, Event, sooner, rank, placed, when, here, there, too_pending, too_many_nodes, too_large}
 use Rattle.self_grammar.specs.declared.signs.ReadKind.TheVariants as kind
-use Rattle.self_reader.specs.Turns.{listed}
+use Rattle.reader_states.specs.Turns.{listed}
 use Rattle.self_reader.specs.Settling.{or_sooner, first_at, too_deep, broken_at, HasRoom}
 use Rattle.self_reader.specs.declared.settling.Sums.{Sums}
 

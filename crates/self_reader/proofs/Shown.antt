@@ -10,14 +10,14 @@ use Rattle.self_grammar.specs.declared.pieces.SlotForm.TheVariants as form
 use Rattle.self_grammar.proofs.Settled.{name_scope, set_scope, keyword_scope, head_inner, head_named, operator_scope, member_scope, slot_scope, slots_scope, local_scope, argument_scope}
 use Rattle.self_grammar.proofs.Places as p
 use Rattle.self_grammar.proofs.Moves as m
-use Rattle.self_reader.specs.declared.frames.Label.{Label}
-use Rattle.self_reader.specs.declared.frames.Heading.{Heading}
-use Rattle.self_reader.specs.declared.frames.Message.{Message}
-use Rattle.self_reader.specs.declared.frames.Frame.{Frame}
-use Rattle.self_reader.specs.declared.frames.Frame.TheVariants as f
-use Rattle.self_reader.specs.declared.frames.At.{At}
-use Rattle.self_reader.specs.declared.frames.At.TheVariants as at
-use Rattle.self_reader.specs.Turns.{Turn, after}
+use Rattle.reader_states.specs.declared.frames.Label.{Label}
+use Rattle.reader_states.specs.declared.frames.Heading.{Heading}
+use Rattle.reader_states.specs.declared.frames.Message.{Message}
+use Rattle.reader_states.specs.declared.frames.Frame.{Frame}
+use Rattle.reader_states.specs.declared.frames.Frame.TheVariants as f
+use Rattle.reader_states.specs.declared.frames.At.{At}
+use Rattle.reader_states.specs.declared.frames.At.TheVariants as at
+use Rattle.reader_states.specs.Turns.{Turn, after}
 
 abbrev pub label_in : g.Label → Label
 label_in w = record { name = w.name; setter = w.setter; spot = w.spot }

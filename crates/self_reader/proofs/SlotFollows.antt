@@ -22,13 +22,15 @@ use Rattle.self_grammar.proofs.Settled.{name_scope, set_scope, argument_scope, k
 use Rattle.self_grammar.proofs.Places as p
 use Rattle.self_grammar.proofs.Moves as m
 use Rattle.self_grammar.proofs.SlotMoves as v
-use Rattle.self_reader.specs.declared.frames.Heading.{Heading}
-use Rattle.self_reader.specs.declared.frames.Frame.{Frame}
-use Rattle.self_reader.specs.declared.frames.Frame.TheVariants as f
-use Rattle.self_reader.specs.declared.frames.At.TheVariants as at
-use Rattle.self_reader.specs.Turns.{Turn}
-use Rattle.self_reader.specs.CodeTurns.{simply, begun}
-use Rattle.self_reader.specs.SlotTurns as t
+use Rattle.reader_states.specs.declared.frames.Heading.{Heading}
+use Rattle.reader_states.specs.declared.frames.Frame.{Frame}
+use Rattle.reader_states.specs.declared.frames.Frame.TheVariants as f
+use Rattle.reader_states.specs.declared.frames.At.TheVariants as at
+use Rattle.reader_states.specs.Turns.{Turn, simply}
+use Rattle.code_reader.specs.CodeTurns.{begun}
+use Rattle.slot_reader.specs.SlotTurns as t
+use Rattle.self_reader.specs.ContentTurns as held
+use Rattle.reader_states.specs.Turns as turns
 use Rattle.self_reader.proofs.Shown.{Follows, label_in, keyword_heading, lists, start, contents, data_frames, member_item, member_goes_on, ends_with_path, stand}
 use Rattle.self_reader.proofs.CodeFollows.{begin_follows}
 
@@ -58,17 +60,17 @@ list_ends_at_end l c (p.listed (p.in_object h q d ss)) b = tt
 -- A slot ends.
 member_done_ends : (l : Limits) (c : Context) (h : p.Lists) (y : g.Member) (pre : Context → Context) (i : Item) → s.member_items y ≡ i ∷ [] → (x : v.After) (b : Spot) →
     Follows l c (t.done_turn (lists l h (member_scope l y (p.scope_of l h))) (pre c) (Some i) (v.after_symbol x)) (v.done_move l h (g.member y) pre x b)
-member_done_ends l c (p.in_world ms) y pre i e v.period b = (ap (λ is. t.placed is (pre c)) (sym e), refl, λ d. refl, refl)
+member_done_ends l c (p.in_world ms) y pre i e v.period b = (ap (λ is. turns.placed is (pre c)) (sym e), refl, λ d. refl, refl)
 member_done_ends l c (p.in_world ms) y pre i e v.bar b = tt
-member_done_ends l c (p.in_world ms) y pre i e v.end b = (ap (λ is. t.placed is (pre c)) (sym e), refl, λ d. refl, refl)
-member_done_ends l c (p.in_bars h q d ss) y pre i e v.period b = (ap (λ is. t.placed is (pre c)) (sym e), refl, λ d. refl, refl)
+member_done_ends l c (p.in_world ms) y pre i e v.end b = (ap (λ is. turns.placed is (pre c)) (sym e), refl, λ d. refl, refl)
+member_done_ends l c (p.in_bars h q d ss) y pre i e v.period b = (ap (λ is. turns.placed is (pre c)) (sym e), refl, λ d. refl, refl)
 member_done_ends l c (p.in_bars h q d ss) y pre i e v.bar b =
     subst (λ z. Follows l c z (v.done_move l (p.in_bars h q d ss) (g.member y) pre v.bar b))
-    (sym (shut_is l h q (member_scope l y (p.scope_of l (p.in_bars h q d ss))) (t.placed (i ∷ []) (pre c))))
-    (ap (λ is. t.placed is (pre c)) (sym e), refl, λ d. refl, refl)
+    (sym (shut_is l h q (member_scope l y (p.scope_of l (p.in_bars h q d ss))) (turns.placed (i ∷ []) (pre c))))
+    (ap (λ is. turns.placed is (pre c)) (sym e), refl, λ d. refl, refl)
 member_done_ends l c (p.in_bars h q d ss) y pre i e v.end b = tt
-member_done_ends l c (p.in_object h q d ss) y pre i e v.period b = (ap (λ is. t.placed is (pre c)) (sym e), refl, λ d. refl, refl)
-member_done_ends l c (p.in_object h q d ss) y pre i e v.bar b = (ap (λ is. t.placed is (pre c)) (sym e), refl, λ d. refl, refl)
+member_done_ends l c (p.in_object h q d ss) y pre i e v.period b = (ap (λ is. turns.placed is (pre c)) (sym e), refl, λ d. refl, refl)
+member_done_ends l c (p.in_object h q d ss) y pre i e v.bar b = (ap (λ is. turns.placed is (pre c)) (sym e), refl, λ d. refl, refl)
 member_done_ends l c (p.in_object h q d ss) y pre i e v.end b = tt
 
 argument_ends : (l : Limits) (c : Context) (h : p.Lists) (w : g.Label) (x : v.After) (b : Spot) →
@@ -79,7 +81,7 @@ argument_ends l c (p.in_world ms) w v.end b = tt
 argument_ends l c (p.in_bars h q d ss) w v.period b = (refl, refl, λ d. refl, refl)
 argument_ends l c (p.in_bars h q d ss) w v.bar b =
     subst (λ z. Follows l c z (v.done_move l (p.in_bars h q d ss) (g.argument w) m.stay v.bar b))
-    (sym (shut_is l h q (slot_scope l (g.argument w) (p.scope_of l (p.in_bars h q d ss))) (t.placed [] c))) (refl, refl, λ d. refl, refl)
+    (sym (shut_is l h q (slot_scope l (g.argument w) (p.scope_of l (p.in_bars h q d ss))) (turns.placed [] c))) (refl, refl, λ d. refl, refl)
 argument_ends l c (p.in_bars h q d ss) w v.end b = tt
 argument_ends l c (p.in_object h q d ss) w v.period b = (refl, refl, λ d. refl, refl)
 argument_ends l c (p.in_object h q d ss) w v.bar b = (refl, refl, λ d. refl, refl)
@@ -156,7 +158,7 @@ lone_stopped_follows l c y e q r _ b = tt
 
 -- Where a slot is wanted.
 name_follows : (l : Limits) (c : Context) (h : p.Start) (n r : ℕ) (b : Spot) →
-    Follows l c (t.named_at l n b (at.Named (t.label n r b)) (start l h (p.start_scope l h)) c)
+    Follows l c (t.named_at l n b (at.Named (turns.label n r b)) (start l h (p.start_scope l h)) c)
     (m.simply (v.name_event l (p.start_scope l h) (m.label n r b)) (m.named h (m.label n r b)))
 name_follows l c p.lone n r b = (refl, refl, λ d. refl, refl)
 name_follows l c (p.listed (p.in_world ms)) n r b = (refl, refl, λ d. refl, refl)
@@ -343,13 +345,13 @@ keyword_wanting_follows l c h n q _ b = tt
 
 -- Where contents are wanted.
 simple_follows : (l : Limits) (c : Context) (h : p.Contents) (d : g.Simple) (i : Item) (k : Bool) → ends_with_path d ≡ k →
-    Follows l c (t.simple_constant i k (contents l h) c) (v.simple_move h d i)
+    Follows l c (held.simple_constant i k (contents l h) c) (v.simple_move h d i)
 simple_follows l c (p.undecided h w e) d i k is =
     (refl, refl, λ d. refl, ap (λ z. stand (at.MemberDone (s.slot_item w form.Constant) z) (lists l h (name_scope l w (p.scope_of l h)))) (sym is))
 simple_follows l c (p.coded h x e) d i k is = tt
 
 paren_follows : (l : Limits) (c : Context) (h : p.Contents) (b : Spot) →
-    Follows l c (t.paren_turn b (p.named_of l h).inner (contents l h) c)
+    Follows l c (held.paren_turn b (p.named_of l h).inner (contents l h) c)
     (m.simply (record (s.opening_item b) { next = s.wants_bar (p.named_of l h) }) (m.opened h b))
 paren_follows l c (p.undecided h w e) b = (refl, refl, λ d. refl, refl)
 paren_follows l c (p.coded h (g.unary_head w) e) b = (refl, refl, λ d. refl, refl)
@@ -359,7 +361,7 @@ paren_follows l c (p.coded h (g.keyword_with n) e) b = (refl, refl, λ d. refl, 
 paren_follows l c (p.coded h (g.keyword n) e) b = (refl, refl, λ d. refl, refl)
 
 pub holding_follows : (l : Limits) (c : Context) (h : p.Contents) (x : Symbol) (b : Spot) →
-    Follows l c (t.holding_turn (p.named_of l h).inner (contents l h) c x b) (v.holding_move l h x b)
+    Follows l c (held.holding_turn (p.named_of l h).inner (contents l h) c x b) (v.holding_move l h x b)
 holding_follows l c h (sign.Integer z) b = simple_follows l c h (g.integer z b) (items.Integer z) false refl
 holding_follows l c h (sign.Text i j) b = simple_follows l c h (g.string (record { start = i; end = j; spot = b })) (items.Text i j) false refl
 holding_follows l c h (sign.Name n r k) b = simple_follows l c h (g.path (g.named (m.any n r k b))) (items.Root n b) true refl
@@ -368,7 +370,7 @@ holding_follows l c h _ b = tt
 
 -- simple contents of what is no method,
 datum_follows : (l : Limits) (c : Context) (h : p.DataHole) (d : g.Simple) (i : Item) (k : Bool) → ends_with_path d ≡ k →
-    Follows l c (t.simple_datum i k (data_frames l h) c) (m.simply (saying i) (v.datum_done h (g.simple d)))
+    Follows l c (held.simple_datum i k (data_frames l h) c) (m.simply (saying i) (v.datum_done h (g.simple d)))
 datum_follows l c (p.assigned h w a) d i k is =
     (refl, refl, λ d. refl, ap (λ z. stand (at.MemberDone (s.slot_item w (form.Assignable w.setter)) z) (lists l h (set_scope l w (p.scope_of l h)))) (sym is))
 datum_follows l c (p.parental (p.in_world ms) w y e) d i k is =
@@ -378,7 +380,7 @@ datum_follows l c (p.parental (p.in_bars h q u ss) w y e) d i k is =
 datum_follows l c (p.parental (p.in_object h q u ss) w y e) d i k is =
     (refl, refl, λ d. refl, ap (λ z. stand (at.MemberDone (s.slot_item w form.Parent) z) (lists l (p.in_object h q u ss) (not_plain (name_scope l w (p.scope_of l (p.in_object h q u ss)))))) (sym is))
 
-pub data_wanted_follows : (l : Limits) (c : Context) (h : p.DataHole) (x : Symbol) (b : Spot) → Follows l c (t.data_wanted_turn (data_frames l h) c x b) (v.data_wanted_move h x b)
+pub data_wanted_follows : (l : Limits) (c : Context) (h : p.DataHole) (x : Symbol) (b : Spot) → Follows l c (held.data_wanted_turn (data_frames l h) c x b) (v.data_wanted_move h x b)
 data_wanted_follows l c h (sign.Integer z) b = datum_follows l c h (g.integer z b) (items.Integer z) false refl
 data_wanted_follows l c h (sign.Text i j) b = datum_follows l c h (g.string (record { start = i; end = j; spot = b })) (items.Text i j) false refl
 data_wanted_follows l c h (sign.Name n r k) b = datum_follows l c h (g.path (g.named (m.any n r k b))) (items.Root n b) true refl
@@ -387,7 +389,7 @@ data_wanted_follows l c h _ b = tt
 
 -- and an object as contents
 marked_follows : (l : Limits) (c : Context) (h : p.Lists) (u : Scope) (e : Event) (y : g.Member) → member_scope l y (p.scope_of l h) ≡ not_plain u →
-    Follows l c (t.marked_at e (at.MemberDone (member_item y) (member_goes_on y)) (lists l h u) c) (m.simply e (m.member_done h y))
+    Follows l c (held.marked_at e (at.MemberDone (member_item y) (member_goes_on y)) (lists l h u) c) (m.simply e (m.member_done h y))
 marked_follows l c (p.in_world ms) u e y is = (refl, refl, λ d. refl, ap (λ z. stand (at.MemberDone (member_item y) (member_goes_on y)) (lists l (p.in_world ms) z)) (sym is))
 marked_follows l c (p.in_bars h q d ss) u e y is =
     (refl, refl, λ d. refl, ap (λ z. stand (at.MemberDone (member_item y) (member_goes_on y)) (lists l (p.in_bars h q d ss) z)) (sym is))
@@ -395,7 +397,7 @@ marked_follows l c (p.in_object h q d ss) u e y is =
     (refl, refl, λ d. refl, ap (λ z. stand (at.MemberDone (member_item y) (member_goes_on y)) (lists l (p.in_object h q d ss) z)) (sym is))
 
 object_datum_follows : (l : Limits) (c : Context) (h : p.DataHole) (e : Event) (o : g.Object) →
-    Follows l c (t.object_datum e (data_frames l h) c) (m.simply e (v.datum_done h (g.object o)))
+    Follows l c (held.object_datum e (data_frames l h) c) (m.simply e (v.datum_done h (g.object o)))
 object_datum_follows l c (p.assigned h w a) e o = marked_follows l c h (set_scope l w (p.scope_of l h)) e (g.assignable w a (g.object o)) refl
 object_datum_follows l c (p.parental h w y a) e o = marked_follows l c h (name_scope l w (p.scope_of l h)) e (g.parent w y a (g.object o)) refl
 
@@ -407,30 +409,30 @@ begins_behind l c k (Some y) None is = is
 begins_behind l c k (Some y) (Some z) is = is
 
 opened_code : (l : Limits) (c : Context) (h : p.Contents) (q : Spot) (x : Symbol) (b : Spot) →
-    Follows l c (begun (f.Statement false ∷ f.Code ∷ contents l h) (t.entered c) x b) (v.code_begins h q x b)
+    Follows l c (begun (f.Statement false ∷ f.Code ∷ contents l h) (turns.entered c) x b) (v.code_begins h q x b)
 opened_code l c h q x b =
-    begins_behind l c m.enter (begun (f.Statement false ∷ f.Code ∷ contents l h) (t.entered c) x b) (m.begin_move (p.alone (p.statement (p.in_method h q) g.none)) x b)
+    begins_behind l c m.enter (begun (f.Statement false ∷ f.Code ∷ contents l h) (turns.entered c) x b) (m.begin_move (p.alone (p.statement (p.in_method h q) g.none)) x b)
     (begin_follows l (m.enter c) (p.alone (p.statement (p.in_method h q) g.none)) x b)
 
-empty_follows : (l : Limits) (c : Context) (h : p.Contents) (q b : Spot) → Follows l c (t.object_constant (t.empty_end q) (contents l h) c) (v.empty_object_move h q b)
+empty_follows : (l : Limits) (c : Context) (h : p.Contents) (q b : Spot) → Follows l c (held.object_constant (held.empty_end q) (contents l h) c) (v.empty_object_move h q b)
 empty_follows l c (p.undecided h w e) q b = marked_follows l c h (name_scope l w (p.scope_of l h)) (v.empty_object_end q) (g.constant w e (g.object (g.empty_object q b))) refl
 empty_follows l c (p.coded h x e) q b = tt
 
 pub opened_follows : (l : Limits) (c : Context) (h : p.Contents) (q : Spot) (x : Symbol) (b : Spot) →
-    Follows l c (t.opened_turn q (p.named_of l h).inner (contents l h) c x b) (v.opened_move h q x b)
+    Follows l c (held.opened_turn q (p.named_of l h).inner (contents l h) c x b) (v.opened_move h q x b)
 opened_follows l c h q sign.Bar b = (refl, refl, λ d. refl, refl)
 opened_follows l c h q sign.CloseParen b = empty_follows l c h q b
 opened_follows l c h q x b = opened_code l c h q x b
 
 pub data_opened_follows : (l : Limits) (c : Context) (h : p.DataHole) (q : Spot) (x : Symbol) (b : Spot) →
-    Follows l c (t.data_opened_turn q (data_frames l h) c x b) (v.data_opened_move h q x b)
+    Follows l c (held.data_opened_turn q (data_frames l h) c x b) (v.data_opened_move h q x b)
 data_opened_follows l c h q sign.Bar b = (refl, refl, λ d. refl, refl)
 data_opened_follows l c h q sign.CloseParen b = object_datum_follows l c h (v.empty_object_end q) (g.empty_object q b)
 data_opened_follows l c h q _ b = tt
 
 -- the first sign of code behind bars, by what surrounds it
 told_is : (l : Limits) (h : p.Contents) (sl : g.Slots) (c : Context) (x : Symbol) (b : Spot) →
-    t.code_turn (slots_scope l sl (p.named_of l h).inner) (contents l h) c x b ≡ begun (f.Statement false ∷ f.Code ∷ contents l h) (v.barred_pre l h sl c) x b
+    held.code_turn (slots_scope l sl (p.named_of l h).inner) (contents l h) c x b ≡ begun (f.Statement false ∷ f.Code ∷ contents l h) (v.barred_pre l h sl c) x b
 told_is l (p.undecided h w e) sl c x b = refl
 told_is l (p.coded h (g.unary_head w) e) sl c x b = refl
 told_is l (p.coded h (g.operator_with o a) e) sl c x b = refl
@@ -439,26 +441,26 @@ told_is l (p.coded h (g.keyword_with n) e) sl c x b = refl
 told_is l (p.coded h (g.keyword n) e) sl c x b = refl
 
 shut_code : (l : Limits) (c : Context) (h : p.Contents) (q d : Spot) (sl : g.Slots) (d2 : Spot) (x : Symbol) (b : Spot) →
-    Follows l c (t.code_turn (slots_scope l sl (p.named_of l h).inner) (contents l h) c x b)
+    Follows l c (held.code_turn (slots_scope l sl (p.named_of l h).inner) (contents l h) c x b)
     (v.behind_pre (v.barred_pre l h sl) (m.begin_move (p.alone (p.statement (p.in_slotted h q d sl d2) g.none)) x b))
 shut_code l c h q d sl d2 x b =
-    begins_behind l c (v.barred_pre l h sl) (t.code_turn (slots_scope l sl (p.named_of l h).inner) (contents l h) c x b)
+    begins_behind l c (v.barred_pre l h sl) (held.code_turn (slots_scope l sl (p.named_of l h).inner) (contents l h) c x b)
     (m.begin_move (p.alone (p.statement (p.in_slotted h q d sl d2) g.none)) x b)
     (subst (λ z. Follows l (v.barred_pre l h sl c) z (m.begin_move (p.alone (p.statement (p.in_slotted h q d sl d2) g.none)) x b)) (sym (told_is l h sl c x b))
     (begin_follows l (v.barred_pre l h sl c) (p.alone (p.statement (p.in_slotted h q d sl d2) g.none)) x b))
 
 object_follows : (l : Limits) (c : Context) (h : p.Contents) (q d : Spot) (sl : g.Slots) (d2 b : Spot) →
-    Follows l c (t.object_constant (t.object_end q (slots_scope l sl (p.named_of l h).inner)) (contents l h) c) (v.object_move l h q d sl d2 b)
+    Follows l c (held.object_constant (held.object_end q (slots_scope l sl (p.named_of l h).inner)) (contents l h) c) (v.object_move l h q d sl d2 b)
 object_follows l c (p.undecided h w e) q d sl d2 b =
     marked_follows l c h (name_scope l w (p.scope_of l h)) (v.object_end q (slots_scope l sl (scope either))) (g.constant w e (g.object (g.slotted_object q d sl d2 b))) refl
 object_follows l c (p.coded h x e) q d sl d2 b = tt
 
 pub shut_follows : (l : Limits) (c : Context) (h : p.Contents) (q d : Spot) (sl : g.Slots) (d2 : Spot) (x : Symbol) (b : Spot) →
-    Follows l c (t.shut_turn q (slots_scope l sl (p.named_of l h).inner) (contents l h) c x b) (v.shut_move l h q d sl d2 x b)
+    Follows l c (held.shut_turn q (slots_scope l sl (p.named_of l h).inner) (contents l h) c x b) (v.shut_move l h q d sl d2 x b)
 shut_follows l c h q d sl d2 sign.CloseParen b = object_follows l c h q d sl d2 b
 shut_follows l c h q d sl d2 x b = shut_code l c h q d sl d2 x b
 
 pub data_shut_follows : (l : Limits) (c : Context) (h : p.DataHole) (q d : Spot) (sl : g.Slots) (d2 : Spot) (x : Symbol) (b : Spot) →
-    Follows l c (t.data_shut_turn q (slots_scope l sl (scope holder)) (data_frames l h) c x b) (v.data_shut_move l h q d sl d2 x b)
+    Follows l c (held.data_shut_turn q (slots_scope l sl (scope holder)) (data_frames l h) c x b) (v.data_shut_move l h q d sl d2 x b)
 data_shut_follows l c h q d sl d2 sign.CloseParen b = object_datum_follows l c h (v.object_end q (slots_scope l sl (scope holder))) (g.slotted_object q d sl d2 b)
 data_shut_follows l c h q d sl d2 _ b = tt

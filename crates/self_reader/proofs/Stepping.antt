@@ -12,7 +12,7 @@ use Rattle.self_grammar.proofs.Moves as m
 use Rattle.self_grammar.proofs.Reading as g
 use Rattle.self_grammar.proofs.Reading.{State, move, step}
 use Rattle.self_reader.specs.declared.reading.Reader.{Reader}
-use Rattle.self_reader.specs.Turns.{Turn, after}
+use Rattle.reader_states.specs.Turns.{Turn, after}
 use Rattle.self_reader.specs.Turning.{turn}
 use Rattle.self_reader.specs.Settling.{first_at}
 use Rattle.self_reader.specs.Reading.{missing_bar, unless, settled, barred, fed, said_by, said_at}

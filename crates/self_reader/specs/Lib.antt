@@ -1,11 +1,6 @@
-pub mod CodeTurns
+pub mod ContentTurns
 pub mod LocalTurns
-pub mod Numbers
-pub mod Owners
 pub mod Reading
 pub mod Settling
-pub mod Signs
-pub mod SlotTurns
 pub mod Texts
 pub mod Turning
-pub mod Turns

@@ -1,64 +1,27 @@
 -- What a sign does in the slots of a block, on lists. Used by contracts of private functions alone: no public clause cites it.
 use Rattle.std.specs.Prelude.{ℕ, Bool, true, false, if◌then◌else◌, Option, None, Some, List, [], ◌∷◌, ◌++◌}
 use Rattle.self_grammar.specs.declared.signs.Spot.{Spot}
-use Rattle.self_grammar.specs.declared.signs.Reserved.{Reserved}
-use Rattle.self_grammar.specs.declared.signs.Reserved.TheVariants.{Free, Itself, Resend}
 use Rattle.self_grammar.specs.declared.signs.Role.{Role}
 use Rattle.self_grammar.specs.declared.signs.Role.TheVariants.{Equals, Arrow, Star, Other}
 use Rattle.self_grammar.specs.declared.signs.Symbol.{Symbol}
 use Rattle.self_grammar.specs.declared.signs.Symbol.TheVariants as sign
-use Rattle.self_grammar.specs.declared.pieces.Words.TheVariants.{One}
-use Rattle.self_grammar.specs.declared.pieces.SlotForm.{SlotForm}
 use Rattle.self_grammar.specs.declared.pieces.SlotForm.TheVariants as form
 use Rattle.self_grammar.specs.declared.pieces.Item.{Item}
 use Rattle.self_grammar.specs.declared.pieces.Item.TheVariants as items
 use Rattle.self_grammar.specs.Counts.{Limits, Breach, Context, Event, quiet, saying}
-use Rattle.self_grammar.specs.Scopes.{Scope, named, with_argument, with_local, again, too_many_arguments, too_many_locals}
-use Rattle.self_reader.specs.declared.counts.Post.TheVariants as post
-use Rattle.self_reader.specs.declared.frames.Label.{Label}
-use Rattle.self_reader.specs.declared.frames.Frame.{Frame}
-use Rattle.self_reader.specs.declared.frames.Frame.TheVariants as f
-use Rattle.self_reader.specs.declared.frames.At.{At}
-use Rattle.self_reader.specs.declared.frames.At.TheVariants as at
-use Rattle.self_reader.specs.Turns.{Turn, listed}
+use Rattle.self_grammar.specs.Scopes.{Scope, with_argument, again, too_many_arguments}
+use Rattle.reader_states.specs.declared.frames.Label.{Label}
+use Rattle.reader_states.specs.declared.frames.Frame.{Frame}
+use Rattle.reader_states.specs.declared.frames.Frame.TheVariants as f
+use Rattle.reader_states.specs.declared.frames.At.TheVariants as at
+use Rattle.reader_states.specs.Turns.{Turn, listed, simply, placed, told, with_name, name_event, if_free, label, slot_item, with_setter}
 
--- a turn behind which nothing more is counted
-abbrev pub simply : Context → Event → At → List Frame → Option Turn
-simply c e a fs = Some (record { counts = c; event = e; post = post.Stay; at = a; frames = fs })
-
--- what is counted before a sign: slots that end there, and rules that are known there
-abbrev pub placed : List Item → Context → Context
-placed is c = record c { ready = c.ready ++ is }
-
-abbrev pub told : List Breach → Context → Context
-told bs c = record c { late = c.late ++ bs }
-
--- names that the slots get, and what they count and break
-abbrev pub with_name : Limits → ℕ → Spot → Scope → Scope
-with_name l n b t = named (n ∷ []) (with_local l b t)
-
-abbrev pub name_event : Limits → Scope → ℕ → Spot → Event
-name_event l t n b = record quiet { counted = b ∷ []; broken = too_many_locals l t ++ again t (n ∷ []) b }
-
+-- what an argument counts and breaks
 abbrev pub argument_event : Limits → Scope → ℕ → Spot → Event
 argument_event l t n b = record quiet { says = items.Argument n ∷ []; counted = b ∷ []; broken = too_many_arguments l t.arguments ++ again t (n ∷ []) b }
 
-abbrev pub with_setter : Label → Scope → Scope
-with_setter w t = named (w.setter ∷ []) t
-
 abbrev pub setter_again : Label → Scope → List Breach
 setter_again w t = again t (w.setter ∷ []) w.spot
-
-abbrev pub if_free : Reserved → Option Turn → Option Turn
-if_free Free t = t
-if_free Itself t = None
-if_free Resend t = None
-
-abbrev pub label : ℕ → ℕ → Spot → Label
-label n s b = record { name = n; setter = s; spot = b }
-
-abbrev pub slot_item : Label → SlotForm → Item
-slot_item w k = items.Slot (One w.name) k w.spot
 
 -- The slots get a name, or an argument.
 abbrev pub named_at : Limits → ℕ → ℕ → Spot → List Frame → Context → Option Turn

@@ -12,11 +12,11 @@ use Rattle.self_reader.specs.declared.stops.ReadStop.{ReadStop}
 use Rattle.self_reader.specs.declared.stops.ReadStop.TheVariants as stops
 use Rattle.self_grammar.specs.Scopes.{scope, holder}
 use Rattle.self_grammar.specs.Spelling.{at_first}
-use Rattle.self_reader.specs.declared.frames.At.TheVariants as at
-use Rattle.self_reader.specs.declared.frames.Frame.{Frame}
-use Rattle.self_reader.specs.declared.frames.Frame.TheVariants as f
+use Rattle.reader_states.specs.declared.frames.At.TheVariants as at
+use Rattle.reader_states.specs.declared.frames.Frame.{Frame}
+use Rattle.reader_states.specs.declared.frames.Frame.TheVariants as f
 use Rattle.self_reader.specs.declared.reading.Reader.{Reader}
-use Rattle.self_reader.specs.Turns.{Turn, after}
+use Rattle.reader_states.specs.Turns.{Turn, after}
 use Rattle.self_reader.specs.Turning.{turn}
 use Rattle.self_reader.specs.Settling.{first_at}
 

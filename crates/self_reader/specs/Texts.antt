@@ -5,7 +5,7 @@ use Rattle.self_grammar.specs.declared.pieces.Item.{Item}
 use Rattle.self_grammar.specs.Counts.{Mark}
 use Rattle.self_grammar.specs.Refusal.{IsText, IsRefused}
 use Rattle.self_grammar.specs.Spelling.{items_of}
-use Rattle.self_reader.specs.Signs.{is_last}
+use Rattle.self_signs.specs.Signs.{is_last}
 use Rattle.self_reader.specs.declared.stops.ReadStop.{ReadStop}
 use Rattle.self_reader.specs.declared.stops.ReadStop.TheVariants as stops
 

@@ -3,12 +3,13 @@ use Rattle.std.specs.Prelude.{Option, None, List}
 use Rattle.self_grammar.specs.declared.signs.Spot.{Spot}
 use Rattle.self_grammar.specs.declared.signs.Symbol.{Symbol}
 use Rattle.self_grammar.specs.Counts.{Limits, Context}
-use Rattle.self_reader.specs.declared.frames.At.{At}
-use Rattle.self_reader.specs.declared.frames.At.TheVariants as at
-use Rattle.self_reader.specs.declared.frames.Frame.{Frame}
-use Rattle.self_reader.specs.Turns.{Turn}
-use Rattle.self_reader.specs.CodeTurns.{begun, gone_on, behind_delegate, ended_turn}
-use Rattle.self_reader.specs.SlotTurns as s
+use Rattle.reader_states.specs.declared.frames.At.{At}
+use Rattle.reader_states.specs.declared.frames.At.TheVariants as at
+use Rattle.reader_states.specs.declared.frames.Frame.{Frame}
+use Rattle.reader_states.specs.Turns.{Turn}
+use Rattle.code_reader.specs.CodeTurns.{begun, gone_on, behind_delegate, ended_turn}
+use Rattle.slot_reader.specs.SlotTurns as s
+use Rattle.self_reader.specs.ContentTurns as held
 use Rattle.self_reader.specs.LocalTurns as w
 
 -- in the slots of a block
@@ -30,12 +31,12 @@ turn_behind l a fs c x b = turn_in_block l a fs c x b
 
 -- in the contents of a slot
 abbrev pub turn_in_contents : Limits → At → List Frame → Context → Symbol → Spot → Option Turn
-turn_in_contents l (at.Holding i) fs c x b = s.holding_turn i fs c x b
-turn_in_contents l at.DataWanted fs c x b = s.data_wanted_turn fs c x b
-turn_in_contents l (at.Opened q i) fs c x b = s.opened_turn q i fs c x b
-turn_in_contents l (at.DataOpened q) fs c x b = s.data_opened_turn q fs c x b
-turn_in_contents l (at.Shut q t) fs c x b = s.shut_turn q t fs c x b
-turn_in_contents l (at.DataShut q t) fs c x b = s.data_shut_turn q t fs c x b
+turn_in_contents l (at.Holding i) fs c x b = held.holding_turn i fs c x b
+turn_in_contents l at.DataWanted fs c x b = held.data_wanted_turn fs c x b
+turn_in_contents l (at.Opened q i) fs c x b = held.opened_turn q i fs c x b
+turn_in_contents l (at.DataOpened q) fs c x b = held.data_opened_turn q fs c x b
+turn_in_contents l (at.Shut q t) fs c x b = held.shut_turn q t fs c x b
+turn_in_contents l (at.DataShut q t) fs c x b = held.data_shut_turn q t fs c x b
 turn_in_contents l a fs c x b = turn_behind l a fs c x b
 
 -- in the name of a slot

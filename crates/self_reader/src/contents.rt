@@ -2,17 +2,17 @@
 ghost use Rattle.std.specs.Prelude.{◌≡◌, Some, not};
 ghost use Rattle.self_grammar.specs.Counts.{when, here};
 ghost use Rattle.self_grammar.specs.declared.signs.ReadKind.TheVariants as kind;
-ghost use Rattle.self_reader.specs.Turns.{event_in, listed, Turns, Gives};
-ghost use Rattle.self_reader.specs.SlotTurns.{misfits, slot_item, marked, marked_at, simple_constant, simple_datum, object_constant, object_datum, opening_item, opened_event, paren_turn, holding_turn, data_wanted_turn, empty_end, is_bar, is_close, bare_opened, opened_turn, data_opened_turn, object_end, at_code, told, code_begun, code_turn, shut_turn, data_shut_turn};
+ghost use Rattle.reader_states.specs.Turns.{event_in, listed, Turns, Gives, slot_item, told};
+ghost use Rattle.slot_reader.specs.SlotTurns.{misfits};
+ghost use Rattle.self_reader.specs.ContentTurns.{marked, marked_at, simple_constant, simple_datum, object_constant, object_datum, opening_item, opened_event, paren_turn, holding_turn, data_wanted_turn, empty_end, is_bar, is_close, bare_opened, opened_turn, data_opened_turn, object_end, at_code, code_begun, code_turn, shut_turn, data_shut_turn};
 
-use crate::code::{begin, simply};
-use crate::counts::{Counts, Event};
-use crate::ends::misfits;
-use crate::events::{closing, opening, quiet, saying};
-use crate::frames::{At, Frame, Label, Stop, Turn};
-use crate::scopes::{Owner, Scope};
-use crate::stack::Stack;
+use code_reader::begin;
+use reader_states::{
+    At, Counts, Event, Frame, Label, Owner, Scope, Stack, Stop, Turn, closing, opening, quiet,
+    saying, simply,
+};
 use self_grammar::{Breach, Item, ReadKind, SlotForm, Spot, Symbol, Words};
+use slot_reader::misfits;
 use std::alloc::Global;
 
 // The item of a slot that ends.

@@ -1,22 +1,14 @@
 // The reader of worlds and method slots: bytes in, the items of a text or the first refusal and its place out.
 //
-// Model: a text is the list of its signs (`specs/Signs.antt`); what it says, and where it is refused, are the definitions of
-// self_grammar. The reader is a machine that takes one sign after the other, with a stack of what is open.
+// Model: a text is the list of its signs (`specs/Signs.antt` of self_signs); what it says, and where it is refused, are the
+// definitions of self_grammar. The reader is a machine that takes one sign after the other, with a stack of what is open
+// (reader_states); code_reader and slot_reader have most of what a sign does.
 #![tactic(auto)]
 
-mod code;
 mod contents;
-mod counts;
-mod ends;
-mod events;
-mod frames;
-mod heads;
 mod locals;
 mod reading;
-mod scopes;
 mod settling;
-mod signs;
-mod stack;
 mod stops;
 mod texts;
 mod turning;

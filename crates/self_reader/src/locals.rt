@@ -2,29 +2,14 @@
 // the slot.
 ghost use Rattle.std.specs.Prelude.{◌≡◌, ◌∷◌, [], OnOk, IfOk};
 ghost use Rattle.self_grammar.specs.Scopes.{with_argument};
-ghost use Rattle.self_reader.specs.Turns.{event_in, listed, Turns};
-ghost use Rattle.self_reader.specs.LocalTurns.{simply, placed, told, with_name, name_event, argument_event, with_setter, setter_again, slot_item, named_at, argument_at, code_begins, closed, local_turn, done_turn, arrow_turn, role_turn, bare_turn, local_named_turn, contents_turn, local_equals_turn, local_arrow_turn, local_done_turn};
+ghost use Rattle.reader_states.specs.Turns.{event_in, listed, Turns, placed, told, with_name, name_event, with_setter, slot_item};
+ghost use Rattle.self_reader.specs.LocalTurns.{argument_event, setter_again, named_at, argument_at, code_begins, closed, local_turn, done_turn, arrow_turn, role_turn, bare_turn, local_named_turn, contents_turn, local_equals_turn, local_arrow_turn, local_done_turn};
 
-use crate::counts::{Counts, Event, Post};
-use crate::events::{quiet, saying};
-use crate::frames::{At, Frame, Label, Stop, Turn};
-use crate::scopes::{Scope, duplicate};
-use crate::stack::Stack;
+use reader_states::{
+    At, Counts, Event, Frame, Label, Scope, Stack, Stop, Turn, duplicate, quiet, saying, simply,
+};
 use self_grammar::{Breach, Item, Limits, Reserved, Role, SlotForm, Spot, Symbol, Words};
 use std::alloc::AllocError;
-
-// A turn behind which nothing more is counted.
-fn simply(counts: Counts, event: Event, at: At, frames: Stack<Frame>) -> Result<Turn, Stop>
-    ensures { Turns result (simply counts (event_in event) at frames) }
-{
-    Ok(Turn {
-        counts,
-        event,
-        post: Post::Stay,
-        at,
-        frames,
-    })
-}
 
 // A slot ends before the sign, with this item; an argument has none.
 fn place(counts: &mut Counts, item: Option<Item>) -> Result<(), AllocError>

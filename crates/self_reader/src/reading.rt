@@ -2,7 +2,7 @@
 ghost use Rattle.std.specs.Prelude.{◌≡◌, ◌++◌, OnOk, IfOk};
 ghost use Rattle.self_grammar.specs.Refusal.{kind_of, bad_syntax};
 ghost use Rattle.self_grammar.specs.Spelling.{at_first};
-ghost use Rattle.self_reader.specs.Turns.{turn_in};
+ghost use Rattle.reader_states.specs.Turns.{turn_in};
 ghost use Rattle.self_reader.specs.Reading.{missing_bar, settled, fed, said_by, said_at, all_said, Answers, before_list};
 ghost use Rattle.self_grammar.specs.Grammar.{World, Edit};
 ghost use Rattle.self_grammar.specs.Spelling.{world, edit, items_of};
@@ -10,13 +10,10 @@ ghost use Rattle.self_grammar.specs.Refusal.{IsText};
 ghost use Rattle.self_reader.specs.Texts.{IsWhole, AreRead, IsAnswered, IsRightlyRefused};
 ghost use Rattle.self_reader.specs.Turning.{turn};
 
-use crate::counts::Counts;
-use crate::frames::{At, Frame, Stop, Turn};
-use crate::scopes::{Owner, Scope};
 use crate::settling::settle;
-use crate::stack::Stack;
 use crate::stops::ReadStop;
 use crate::turning::turn;
+use reader_states::{At, Counts, Frame, Owner, Scope, Stack, Stop, Turn};
 use self_grammar::{Item, Limits, ReadKind, ReadRefusal, Sign, Spot, Symbol};
 use self_tokens::Fault;
 use std::alloc::{AllocError, Global};

@@ -2,12 +2,11 @@
 ghost use Rattle.std.specs.Prelude.{◌≡◌, ◌+◌, ◌-◌, ◌<◌, ◌^◌, ◌++◌, [], true, None, map, length, IfOk, OnOk, if◌then◌else◌};
 ghost use Rattle.self_grammar.specs.Counts.{stated, takes, gives, rank, too_pending, pending_after, too_many_nodes, too_large, nesting_after, resumed, moved, breaches, items_at};
 ghost use Rattle.self_grammar.specs.declared.pieces.Item.TheVariants.{Node as node_item};
-ghost use Rattle.self_reader.specs.Turns.{listed, event_in, after};
+ghost use Rattle.reader_states.specs.Turns.{listed, event_in, after};
 ghost use Rattle.self_reader.specs.Settling.{or_sooner, first_at, too_deep, broken_at, HasRoom, sums_behind, Settles};
 
-use crate::counts::{Counts, Event, Post};
-use crate::stack::Stack;
 use crate::stops::ReadStop;
+use reader_states::{Counts, Event, Post, Stack};
 use self_grammar::{
     Breach, Held, Item, Limits, Made, ReadKind, ReadRefusal, Spot, Target, TextNode,
 };

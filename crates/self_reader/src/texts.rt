@@ -4,13 +4,13 @@ ghost use Rattle.self_tokens.specs.Tokens.{tokens};
 ghost use Rattle.self_grammar.specs.Grammar.{World, Edit};
 ghost use Rattle.self_grammar.specs.Spelling.{world, edit, items_of};
 ghost use Rattle.self_grammar.specs.Refusal.{IsText};
-ghost use Rattle.self_reader.specs.Signs.{signs, names_after, Keeps};
+ghost use Rattle.self_signs.specs.Signs.{signs, names_after, Keeps};
 ghost use Rattle.self_reader.specs.Texts.{AreRead, IsAnswered, IsRightlyRefused, known};
 
 use crate::reading::{read_edit_signs, read_world_signs};
-use crate::signs::signs_of;
 use crate::stops::ReadStop;
 use self_grammar::{Item, Limits};
+use self_signs::signs_of;
 use self_terms::Names;
 use std::alloc::Global;
 

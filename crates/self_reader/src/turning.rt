@@ -1,21 +1,19 @@
 // What a sign does, by where it stands.
-ghost use Rattle.self_reader.specs.Turns.{Turns};
+ghost use Rattle.reader_states.specs.Turns.{Turns};
 ghost use Rattle.self_reader.specs.Turning.{turn, turn_at_slot, turn_in_head, turn_in_contents, turn_behind, turn_in_block};
 
-use crate::code::{begin, end, follow_delegate, go_on};
 use crate::contents::{
     take_contents, take_data, take_data_opened, take_data_shut, take_opened, take_shut,
 };
-use crate::counts::Counts;
-use crate::ends::{follow_argument, follow_lone, follow_member, follow_method};
-use crate::frames::{At, Frame, Stop, Turn};
-use crate::heads::{
-    begin_slot, follow_keyword_argument, follow_keywords, follow_name, follow_operand,
-    follow_operator, follow_star, want_keyword_argument,
-};
 use crate::locals::{at_local, local_arrow, local_done, local_equals, local_named};
-use crate::stack::Stack;
+use code_reader::{begin, end, follow_delegate, go_on};
+use reader_states::{At, Counts, Frame, Stack, Stop, Turn};
 use self_grammar::{Limits, Spot, Symbol};
+use slot_reader::{
+    begin_slot, follow_argument, follow_keyword_argument, follow_keywords, follow_lone,
+    follow_member, follow_method, follow_name, follow_operand, follow_operator, follow_star,
+    want_keyword_argument,
+};
 use std::alloc::Global;
 
 // In the slots of a block.

@@ -7,7 +7,7 @@ use Rattle.self_grammar.specs.Grammar as g
 use Rattle.self_grammar.specs.Refusal.{IsText}
 use Rattle.self_grammar.specs.Spelling.{world, items_of}
 use Rattle.self_reader.specs.declared.texts.TheConstants.{LIMITS}
-use Rattle.self_reader.specs.Signs.{signs, names_after}
+use Rattle.self_signs.specs.Signs.{signs, names_after}
 use Rattle.self_reader.specs.Texts.{known}
 use Rattle.world_build.specs.Worlds.{World, built}
 use Rattle.world_build.proofs.DataIntegers.{world_data}

@@ -18,7 +18,7 @@ use Rattle.self_tokens.specs.Texts.{text_of}
 use Rattle.self_tokens.specs.Tokens.{tokens, tokens_from, from_piece}
 use Rattle.self_grammar.specs.declared.signs.Symbol.TheVariants as sign
 use Rattle.self_grammar.specs.Balance.{OfSymbol, OfSigns}
-use Rattle.self_reader.specs.Signs.{signs, sign_of, symbol_at, number_of, names_after, is_restart, is_restart_keyword, unhandled}
+use Rattle.self_signs.specs.Signs.{signs, sign_of, symbol_at, number_of, names_after, is_restart, is_restart_keyword, unhandled}
 
 -- the integer of a token
 abbrev pub OfKind : Kind → Type 0

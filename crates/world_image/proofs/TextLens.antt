@@ -12,7 +12,7 @@ use Rattle.self_tokens.specs.Texts.{text_of}
 use Rattle.self_tokens.specs.Tokens.{tokens, tokens_from, from_piece, token}
 use Rattle.self_tokens.proofs.Within.{piece_within}
 use Rattle.self_grammar.specs.declared.signs.Symbol.{Symbol}
-use Rattle.self_reader.specs.Signs.{signs, sign_of, symbol_at, number_of, names_after, is_restart, is_restart_keyword}
+use Rattle.self_signs.specs.Signs.{signs, sign_of, symbol_at, number_of, names_after, is_restart, is_restart_keyword}
 use Rattle.world_build.proofs.Heavy.{text_len, text_lens}
 
 one_of : (b : Bool) (x y : Symbol) (n : ℕ) → text_len x ≤ n → text_len y ≤ n → text_len (if b then x else y) ≤ n

@@ -4,7 +4,7 @@ use Rattle.self_grammar.specs.declared.pieces.Item.{Item}
 use Rattle.self_grammar.specs.Grammar.{World}
 use Rattle.self_grammar.specs.Spelling.{world, items_of}
 use Rattle.self_reader.specs.Reading.{all_said, Answers, before_list, before_world}
-use Rattle.self_reader.specs.declared.frames.Frame.TheVariants as f
+use Rattle.reader_states.specs.declared.frames.Frame.TheVariants as f
 use Rattle.self_reader.proofs.Answered.{world_found, world_only, world_stops, is_found, is_only, is_refused}
 use Rattle.self_reader.proofs.reading.read_world_signs.Goals as goal
 use Rattle.self_reader.proofs.reading.read_world_signs.Goals.{After-read_signs}

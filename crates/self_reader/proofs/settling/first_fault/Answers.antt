@@ -1,6 +1,6 @@
 use Rattle.std.proofs.Common.{length, ◌+◌}
 use Rattle.self_grammar.specs.Counts.{too_pending, too_many_nodes, too_large}
-use Rattle.self_reader.specs.Turns.{listed}
+use Rattle.reader_states.specs.Turns.{listed}
 use Rattle.self_reader.specs.Settling.{too_deep}
 use Rattle.self_reader.proofs.SettlingLemmas.{first_of_all}
 use Rattle.self_reader.proofs.settling.first_fault.Goals as goal

@@ -3,7 +3,7 @@ use Rattle.std.specs.Prelude.{None, List}
 use Rattle.self_grammar.specs.declared.pieces.Breach.{Breach}
 use Rattle.self_grammar.specs.declared.pieces.Made.{Made}
 use Rattle.self_reader.specs.declared.settling.Sums.{Sums}
-use Rattle.self_reader.specs.Turns.{event_in}
+use Rattle.reader_states.specs.Turns.{event_in}
 use Rattle.self_reader.specs.Settling.{first_at, broken_at}
 use Rattle.self_reader.proofs.SettlingLemmas.{sound, pends}
 use Rattle.self_reader.proofs.settling.settle.Goals as goal

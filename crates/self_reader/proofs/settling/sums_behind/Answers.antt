@@ -1,6 +1,6 @@
 use Rattle.std.proofs.Common.{◌≡◌, ◌+◌, length, refl, arith}
 use Rattle.self_grammar.specs.Counts.{nesting_after}
-use Rattle.self_reader.specs.Turns.{listed}
+use Rattle.reader_states.specs.Turns.{listed}
 use Rattle.self_reader.proofs.SettlingLemmas.{deep_room, nodes_room, large_room, uncut}
 use Rattle.self_reader.proofs.settling.sums_behind.Goals as goal
 

@@ -2,7 +2,7 @@ use Rattle.std.proofs.Common.{◌≡◌, ◌∙◌, subst}
 use Rattle.self_grammar.specs.Grammar.{Edit}
 use Rattle.self_grammar.specs.Spelling.{edit}
 use Rattle.self_reader.specs.declared.texts.TheConstants.{LIMITS}
-use Rattle.self_reader.specs.Signs.{signs}
+use Rattle.self_signs.specs.Signs.{signs}
 use Rattle.self_reader.specs.Texts.{IsRight}
 use Rattle.self_reader.proofs.Closing.{whole}
 use Rattle.self_reader.proofs.texts.read_slot.Goals as goal

@@ -3,7 +3,7 @@ use Rattle.self_grammar.specs.declared.signs.Sign.{Sign}
 use Rattle.self_grammar.specs.Grammar.{World}
 use Rattle.self_grammar.specs.Spelling.{world}
 use Rattle.self_reader.specs.declared.texts.TheConstants.{LIMITS}
-use Rattle.self_reader.specs.Signs.{signs}
+use Rattle.self_signs.specs.Signs.{signs}
 use Rattle.self_reader.specs.Texts.{AreRead, IsRight, known}
 use Rattle.self_reader.proofs.Closing.{whole, few}
 use Rattle.self_reader.proofs.texts.read_world.Goals as goal
