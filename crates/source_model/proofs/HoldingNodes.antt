@@ -21,6 +21,7 @@ use Rattle.source_model.specs.Primitives.{Row, Effect, Gives, Makes, Puts, Print
 use Rattle.source_model.specs.Step.{value_at, taken, stated, implied, maker_in, outwards, owner, local_in, set_in, with_local, over_handler, called, handler_of, fixed_string, fails, with_thing, performs, primitive, done, node_at, place_of, settled, advanced, step}
 use Rattle.source_model.specs.Canon.{Each}
 use Rattle.source_model.specs.Formed.{ThingHolds, ActivationHolds, ActivityHolds, StateHolds}
+use Rattle.source_model.proofs.Naming.{IsRow, is_row}
 use Rattle.source_model.proofs.Keeping.{append_each, set_each, get_each, drop_each, take_each, reverse_each, InSome, find_each, slice_each, either}
 use Rattle.source_model.proofs.Holding.{Kept, HereHolds, Ground, goes_kept, answers_kept, beyond_each, MessageHolds, meets_hold, above_hold, through_hold, sends_kept}
 
@@ -266,11 +267,6 @@ module _ (V : Value → Type 0) (ints : (i : ℤ) → V (values.Int i)) (n : ℕ
   error_small errors.StoreFull = omega arith
   error_small errors.NotBuilt = omega arith
 
-  -- a row's number is one of the table's
-  abbrev pub IsRow : Option ℕ → Type 0
-  IsRow None = Unit {0}
-  IsRow (Some k) = k < 19
-
   row_small : (r : Option ℕ) → IsRow r → row_string r < 26
   row_small None e = omega arith
   row_small (Some k) e = omega (arith, e)
@@ -339,30 +335,30 @@ module _ (V : Value → Type 0) (ints : (i : ℤ) → V (values.Int i)) (n : ℕ
     literal_kept b false e = tt
     literal_kept b true e = goes_kept V n there (record h.state { cost = h.state.cost + 4 }) h (values.Block b h.young.number ∷ h.young.pending) (λ _. record { things = is.state.things; activities = is.state.activities }) is.young is.older (λ _. (e, is.young.pending))
 
-    pub done_kept : ((name : List ℕ) (args : ℕ) → IsRow (row_of name args)) → (node : Node) → NodeHolds h node → Kept' (done h node)
+    pub done_kept : (node : Node) → NodeHolds h node → Kept' (done h node)
     unfolding done
-    done_kept rows (nodes.Int i) e = pushes (values.Int i) (ints i)
-    done_kept rows (nodes.Str o) e = pushes (values.Object o) (there o e)
-    done_kept rows (nodes.BlockLit b) e = literal_kept b (nat_le (h.state.cost + 4) 4194304) e
-    done_kept rows nodes.SelfRef e = pushes h.young.receiver is.young.receiver
-    done_kept rows nodes.Nil e = pushes (values.Object h.state.core.nil) (there h.state.core.nil is.ground.nil)
-    done_kept rows (nodes.Read up slot) e = pushes (local_in (owner h up) slot) (local_holds (owner h up) slot some (outwards_hold (h.young ∷ h.older) up (Some h.young) (is.young, is.older) is.young))
-    done_kept rows (nodes.Store up slot) e = sets_kept (owner h up) slot (value_at h.young.pending 0) (h.young.receiver ∷ drop 1 h.young.pending) (at_value h.young.pending 0 some is.young.pending) (is.young.receiver, drop_each V 1 h.young.pending is.young.pending)
-    done_kept rows (nodes.Send sel) e = sends_kept V n there h is (stated sel.args h) sel.name.0 (meets h.state (stated sel.args h).receiver sel.name.0) (stated_holds sel.args h is) (meets_hold V n there h.state (stated sel.args h).receiver sel.name.0 is.state is.ground)
-    done_kept rows (nodes.SelfSend sel) e = sends_kept V n there h is (implied sel.args h) sel.name.0 (meets h.state h.young.receiver sel.name.0) (implied_holds sel.args h is) (meets_hold V n there h.state h.young.receiver sel.name.0 is.state is.ground)
-    done_kept rows (nodes.Resend sel) e = sends_kept V n there h is (implied sel.args h) sel.name.0 (meets_above h.state h.young.holder sel.name.0) (implied_holds sel.args h is) (above_hold V n there h.state h.young.holder sel.name.0 is.state is.ground)
-    done_kept rows (nodes.Directed parent sel) e = sends_kept V n there h is (implied sel.args h) sel.name.0 (meets_through h.state h.young.holder parent.0 sel.name.0) (implied_holds sel.args h is) (through_hold V n there h.state h.young.holder parent.0 sel.name.0 is.state is.ground)
-    done_kept rows (nodes.Prim name args is_implied handler) e = primitive_kept (row_of (text_named h.state.names name.0) args) (called args is_implied (over_handler handler h)) (handler_of handler h)
-        (rows (text_named h.state.names name.0) args) (called_holds args is_implied (over_handler handler h) (over_holds handler)) (handler_holds handler)
-    done_kept rows nodes.Drop e = goes_kept V n there h.state h (drop 1 h.young.pending) (λ _. is.state) is.young is.older (λ _. drop_each V 1 h.young.pending is.young.pending)
-    done_kept rows nodes.Restart e = λ few. record {
+    done_kept (nodes.Int i) e = pushes (values.Int i) (ints i)
+    done_kept (nodes.Str o) e = pushes (values.Object o) (there o e)
+    done_kept (nodes.BlockLit b) e = literal_kept b (nat_le (h.state.cost + 4) 4194304) e
+    done_kept nodes.SelfRef e = pushes h.young.receiver is.young.receiver
+    done_kept nodes.Nil e = pushes (values.Object h.state.core.nil) (there h.state.core.nil is.ground.nil)
+    done_kept (nodes.Read up slot) e = pushes (local_in (owner h up) slot) (local_holds (owner h up) slot some (outwards_hold (h.young ∷ h.older) up (Some h.young) (is.young, is.older) is.young))
+    done_kept (nodes.Store up slot) e = sets_kept (owner h up) slot (value_at h.young.pending 0) (h.young.receiver ∷ drop 1 h.young.pending) (at_value h.young.pending 0 some is.young.pending) (is.young.receiver, drop_each V 1 h.young.pending is.young.pending)
+    done_kept (nodes.Send sel) e = sends_kept V n there h is (stated sel.args h) sel.name.0 (meets h.state (stated sel.args h).receiver sel.name.0) (stated_holds sel.args h is) (meets_hold V n there h.state (stated sel.args h).receiver sel.name.0 is.state is.ground)
+    done_kept (nodes.SelfSend sel) e = sends_kept V n there h is (implied sel.args h) sel.name.0 (meets h.state h.young.receiver sel.name.0) (implied_holds sel.args h is) (meets_hold V n there h.state h.young.receiver sel.name.0 is.state is.ground)
+    done_kept (nodes.Resend sel) e = sends_kept V n there h is (implied sel.args h) sel.name.0 (meets_above h.state h.young.holder sel.name.0) (implied_holds sel.args h is) (above_hold V n there h.state h.young.holder sel.name.0 is.state is.ground)
+    done_kept (nodes.Directed parent sel) e = sends_kept V n there h is (implied sel.args h) sel.name.0 (meets_through h.state h.young.holder parent.0 sel.name.0) (implied_holds sel.args h is) (through_hold V n there h.state h.young.holder parent.0 sel.name.0 is.state is.ground)
+    done_kept (nodes.Prim name args is_implied handler) e = primitive_kept (row_of (text_named h.state.names name.0) args) (called args is_implied (over_handler handler h)) (handler_of handler h)
+        (is_row (text_named h.state.names name.0) args) (called_holds args is_implied (over_handler handler h) (over_holds handler)) (handler_holds handler)
+    done_kept nodes.Drop e = goes_kept V n there h.state h (drop 1 h.young.pending) (λ _. is.state) is.young is.older (λ _. drop_each V 1 h.young.pending is.young.pending)
+    done_kept nodes.Restart e = λ few. record {
       things = is.state.things;
       activities = set_each (ActivityHolds V) h.state.activities h.state.current (Running (record h.young { pending = []; next = 0 } ∷ h.older)) is.state.activities
           (record { receiver = is.young.receiver; holder = is.young.holder; locals = is.young.locals; pending = tt }, is.older);
     }
-    done_kept rows nodes.Return e = answers_kept V n there h h.older (value_at h.young.pending 0) is.state is.older (at_value h.young.pending 0 some is.young.pending)
-    done_kept rows nodes.NonLocal e = answers_kept V n there h (beyond_home h.young.maker h.older) (value_at h.young.pending 0) is.state (beyond_each V n there h.young.maker h.older is.older) (at_value h.young.pending 0 some is.young.pending)
-    done_kept rows nodes.End e = answers_kept V n there h h.older (value_at h.young.pending 0) is.state is.older (at_value h.young.pending 0 some is.young.pending)
+    done_kept nodes.Return e = answers_kept V n there h h.older (value_at h.young.pending 0) is.state is.older (at_value h.young.pending 0 some is.young.pending)
+    done_kept nodes.NonLocal e = answers_kept V n there h (beyond_home h.young.maker h.older) (value_at h.young.pending 0) is.state (beyond_each V n there h.young.maker h.older is.older) (at_value h.young.pending 0 some is.young.pending)
+    done_kept nodes.End e = answers_kept V n there h h.older (value_at h.young.pending 0) is.state is.older (at_value h.young.pending 0 some is.young.pending)
 
   -- A step.
 
@@ -376,18 +372,18 @@ module _ (V : Value → Type 0) (ints : (i : ℤ) → V (values.Int i)) (n : ℕ
   NextHolds s (Some (Running (a ∷ older))) = NodeHolds (record { state = s; young = a; older = older }) (node_at (body_of s a.body) a.next)
   NextHolds s _ = Unit {0}
 
-  advanced_kept : (s : State) → StateHolds V s → Ground V n there s → ((name : List ℕ) (args : ℕ) → IsRow (row_of name args)) → (x : Option Activity) → NextHolds s x → InSome (ActivityHolds V) x
+  advanced_kept : (s : State) → StateHolds V s → Ground V n there s → (x : Option Activity) → NextHolds s x → InSome (ActivityHolds V) x
       → length (advanced s x).state.things ≤ n → StateHolds V (advanced s x).state
-  advanced_kept s e g rows None q d few = e
-  advanced_kept s e g rows (Some (Running [])) q d few = e
-  advanced_kept s e g rows (Some (Answered v)) q d few = e
-  advanced_kept s e g rows (Some (Failed x p)) q d few = e
-  advanced_kept s e g rows (Some (Running (a ∷ older))) q d few =
+  advanced_kept s e g None q d few = e
+  advanced_kept s e g (Some (Running [])) q d few = e
+  advanced_kept s e g (Some (Answered v)) q d few = e
+  advanced_kept s e g (Some (Failed x p)) q d few = e
+  advanced_kept s e g (Some (Running (a ∷ older))) q d few =
       let h : Here = record { state = s; young = a; older = older } in
       let is : HereHolds V n there h = record { state = e; young = d.0; older = d.1; ground = g } in
-      settled_kept h is (done h (node_at (body_of s a.body) a.next)) (done_kept h is rows (node_at (body_of s a.body) a.next) q) few
+      settled_kept h is (done h (node_at (body_of s a.body) a.next)) (done_kept h is (node_at (body_of s a.body) a.next) q) few
 
-  pub step_holds : (s : State) → StateHolds V s → Ground V n there s → ((name : List ℕ) (args : ℕ) → IsRow (row_of name args)) → NextHolds s (slice_get s.activities s.current)
+  pub step_holds : (s : State) → StateHolds V s → Ground V n there s → NextHolds s (slice_get s.activities s.current)
       → length (step s).state.things ≤ n → StateHolds V (step s).state
   unfolding step
-  step_holds s e g rows q few = advanced_kept s e g rows (slice_get s.activities s.current) q (slice_each (ActivityHolds V) s.activities s.current e.activities) few
+  step_holds s e g q few = advanced_kept s e g (slice_get s.activities s.current) q (slice_each (ActivityHolds V) s.activities s.current e.activities) few
