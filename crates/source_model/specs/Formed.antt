@@ -11,7 +11,8 @@ use Rattle.self_terms.specs.declared.bodies.Local.{Local}
 use Rattle.self_terms.specs.Names.{text_of}
 use Rattle.source_model.specs.Names.{number_of, text_named}
 use Rattle.source_model.specs.Objects.{Object, Slot, Content, Constant, Assignable, Assignment, Parent, Method, Thing, Plain, Vector, Text, is_assignable}
-use Rattle.source_model.specs.State.{Activation, Activity, Running, Answered, Failed, State}
+use Rattle.source_model.specs.State.{Activation, Activity, Running, Answered, Failed, State, Reached}
+use Rattle.source_model.specs.Step.{step, run}
 use Rattle.source_model.specs.Canon.{Each, HasOwnNumbers}
 use Rattle.source_model.specs.Soundness.{body_in, HasBody, IsWell, numbers}
 
@@ -167,3 +168,10 @@ pub record IsFormed (home : ℕ → ℕ) (s : State) : Type 0 where
 
 abbrev pub IsWellFormed : State → Type 0
 IsWellFormed s = (home : ℕ → ℕ) × IsFormed home s
+
+-- each step keeps it, so each run
+abbrev pub StepsForm : Type 0
+StepsForm = (s : State) → IsWellFormed s → IsWellFormed (step s).state
+
+abbrev pub RunsForm : Type 0
+RunsForm = (n : ℕ) (r : Reached) → IsWellFormed r.state → IsWellFormed (run n r).state
