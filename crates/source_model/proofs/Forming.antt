@@ -123,7 +123,7 @@ module _ (home : ℕ → ℕ) (s : State) (formed : IsFormed home s) where
       subst (Each AreInOrder) (sym turned.1) (set_each AreInOrder s.activities s.current now formed.order
       (in_order now (shape_order s.unused (numbers (a ∷ older)) (numbers_in now) turned.3 (numbers_each (λ k. k < s.unused) (a ∷ older) below) was))))
 
-  before : IsAsBefore s t
+  pub before : IsAsBefore s t
   before = step_turns s formed.world.core (λ (u : State). IsAsBefore s u) (as_it_is s) (λ a older here turned. turned.4)
 
   more : length s.things ≤ length t.things
