@@ -74,7 +74,7 @@ module _ (home : ℕ → ℕ) (s : State) (formed : IsFormed home s) where
   each_fit (x ∷ xs) e = (own_fits x e.0, each_fit xs e.1)
 
   objects_fit : Each (Each Fits) (objects s)
-  objects_fit = each_fit s.things formed.world.slots
+  objects_fit = each_fit s.things formed.world.1.slots
 
   at_fits : (objs : List Object) (o : ℕ) → Each (Each Fits) objs → Each Fits (slots_at objs o)
   at_fits [] o e = tt
@@ -184,7 +184,7 @@ module _ (home : ℕ → ℕ) (s : State) (formed : IsFormed home s) where
   said_or (Some b) e = e
 
   pub said_of : (n : ℕ) → Said (body_of s n)
-  said_of n = said_or (slice_get s.bodies (n - 1)) (slice_each Said s.bodies (n - 1) formed.world.code)
+  said_of n = said_or (slice_get s.bodies (n - 1)) (slice_each Said s.bodies (n - 1) formed.world.1.code)
 
   pub node_says : (n k : ℕ) → Says s.names (length s.things) (node_at (body_of s n) k)
   node_says n k = get_each (Says s.names (length s.things)) (body_of s n).nodes k nodes.End (said_of n).said tt
@@ -199,7 +199,7 @@ module _ (home : ℕ → ℕ) (s : State) (formed : IsFormed home s) where
     values_there = subst (InSome (ActivityHolds (IsThere home s))) here (slice_each (ActivityHolds (IsThere home s)) s.activities s.current formed.values.activities)
 
     pending_there : (k : ℕ) → IsThere home s (value_at a.pending k)
-    pending_there k = get_each (IsThere home s) a.pending k (values.Object 0) values_there.0.pending (omega (arith, formed.world.core.nil))
+    pending_there k = get_each (IsThere home s) a.pending k (values.Object 0) values_there.0.pending (omega (arith, formed.world.0.nil))
 
     enough : (node : Node) → node_at (body_of s a.body) a.next ≡ node → taken node ≤ length a.pending
     enough node e = takes home s a older node formed.well (record { here = here; node = e })
@@ -210,7 +210,7 @@ module _ (home : ℕ → ℕ) (s : State) (formed : IsFormed home s) where
         let name : ℕ = number_of s.names (codes "value:With:") in
         let v : Value = value_at a.pending 0 in
         λ m e d. accepts m name (meets s v name) (subst (IsThere home s) (sym e) (pending_there 0))
-        (subst (Takes s.names name) (sym d) formed.world.core.failure) (subst (λ (w : Value). MetFits w name (meets s v name)) (sym e) (meets_fit v name))
+        (subst (Takes s.names name) (sym d) formed.world.0.failure) (subst (λ (w : Value). MetFits w name (meets s v name)) (sym e) (meets_fit v name))
 
     node_accepts : (node : Node) → node_at (body_of s a.body) a.next ≡ node → Says s.names (length s.things) node → NodeAccepts home h node
     node_accepts (nodes.Int i) e says = tt

@@ -7,7 +7,7 @@ use Rattle.self_terms.specs.declared.bodies.Body.{Body}
 use Rattle.source_model.specs.Names.{text_named}
 use Rattle.source_model.specs.Objects.{Object, Slot, Content, Constant, Assignable, Assignment, Parent, Method, Thing, Plain, Vector, Text, is_assignable, parent_of, with_data, with_content, stored, with_slots, changed_at}
 use Rattle.source_model.specs.Canon.{Each}
-use Rattle.source_model.specs.Formed.{ContentFits, SlotFits, Follows, AreTied, ThingFits}
+use Rattle.source_model.specs.Formed.{ContentFits, SlotFits, Follows, AreTied, AreApart, ThingFits}
 use Rattle.source_model.specs.Lasting.{emptied}
 use Rattle.source_model.proofs.Alike.{slot_with}
 use Rattle.source_model.proofs.Keeping.{append_each, slice_each, InSome}
@@ -140,15 +140,31 @@ module _ (names : List (List ℕ)) (bodies : List Body) where
   tied_from front [] e = tt
   tied_from front (x ∷ xs) e = (follows_from front x e.0, tied_from (Some x) xs e.1)
 
+  others_to : (n : ℕ) (slots : Object) → Each (λ (y : Slot). y.name ≡ n → ⊥) slots → Each (λ (y : Slot). y.name ≡ n → ⊥) (map bare slots)
+  others_to n [] e = tt
+  others_to n (x ∷ xs) e = (e.0, others_to n xs e.1)
+
+  others_from : (n : ℕ) (slots : Object) → Each (λ (y : Slot). y.name ≡ n → ⊥) (map bare slots) → Each (λ (y : Slot). y.name ≡ n → ⊥) slots
+  others_from n [] e = tt
+  others_from n (x ∷ xs) e = (e.0, others_from n xs e.1)
+
+  apart_to : (slots : Object) → AreApart slots → AreApart (map bare slots)
+  apart_to [] e = tt
+  apart_to (x ∷ xs) e = (others_to x.name xs e.0, apart_to xs e.1)
+
+  apart_from : (slots : Object) → AreApart (map bare slots) → AreApart slots
+  apart_from [] e = tt
+  apart_from (x ∷ xs) e = (others_from x.name xs e.0, apart_from xs e.1)
+
   things_to : (xs : List Thing) → Each (ThingFits names bodies) xs → Each (ThingFits names bodies) (map bare_thing xs)
   things_to [] e = tt
-  things_to (Plain slots ∷ xs) e = ((slots_to slots e.0.0, tied_to None slots e.0.1), things_to xs e.1)
+  things_to (Plain slots ∷ xs) e = ((slots_to slots e.0.0, tied_to None slots e.0.1, apart_to slots e.0.2), things_to xs e.1)
   things_to (Vector items ∷ xs) e = (tt, things_to xs e.1)
   things_to (Text bytes ∷ xs) e = (tt, things_to xs e.1)
 
   things_from : (xs : List Thing) → Each (ThingFits names bodies) (map bare_thing xs) → Each (ThingFits names bodies) xs
   things_from [] e = tt
-  things_from (Plain slots ∷ xs) e = ((slots_from slots e.0.0, tied_from None slots e.0.1), things_from xs e.1)
+  things_from (Plain slots ∷ xs) e = ((slots_from slots e.0.0, tied_from None slots e.0.1, apart_from slots e.0.2), things_from xs e.1)
   things_from (Vector items ∷ xs) e = (tt, things_from xs e.1)
   things_from (Text bytes ∷ xs) e = (tt, things_from xs e.1)
 

@@ -99,7 +99,7 @@ module _ (k : ℕ) (olds : List ℕ) (below : Each (λ j. j < k) olds) where
   running_eq xs ys e = cc
 
   next : (s : State) → IsWellFormed s → Still (Current s) → Still (Current (step s).state) ⊎ Gone (Current (step s).state)
-  next s formed still = step_turns s formed.1.world.core (λ (t : State). Still (Current t) ⊎ Gone (Current t)) (inl still) (λ a older here turned.
+  next s formed still = step_turns s formed.1.world.0 (λ (t : State). Still (Current t) ⊎ Gone (Current t)) (inl still) (λ a older here turned.
       let now : Activity = turned.0 in
       let same : a ∷ older ≡ still.0 = running_eq (a ∷ older) still.0 (sym here ∙ still.1) in
       let is : Current (step s).state ≡ Some now = (λ i. slice_get (turned.1 i) (turned.2 i)) ∙ set_there s.activities s.current now (Running (a ∷ older)) here in

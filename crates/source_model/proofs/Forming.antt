@@ -38,7 +38,7 @@ module _ (V W : Value → Type 0) (h : (v : Value) → V v → W v) where
   content_holds (Parent o) e = h (values.Object o) e
   content_holds (Method b) e = tt
 
-  thing_holds : (x : Thing) → ThingHolds V x → ThingHolds W x
+  pub thing_holds : (x : Thing) → ThingHolds V x → ThingHolds W x
   thing_holds (Plain slots) e = each (SlotHolds V) (SlotHolds W) (λ x. content_holds x.content) slots e
   thing_holds (Vector items) e = each V W h items e
   thing_holds (Text bytes) e = tt
@@ -116,7 +116,7 @@ module _ (home : ℕ → ℕ) (s : State) (formed : IsFormed home s) where
   t = (step s).state
 
   order_kept : Each AreInOrder t.activities
-  order_kept = step_turns s formed.world.core (λ (u : State). Each AreInOrder u.activities) formed.order (λ a older here turned.
+  order_kept = step_turns s formed.world.0 (λ (u : State). Each AreInOrder u.activities) formed.order (λ a older here turned.
       let now : Activity = turned.0 in
       let below = subst (InSome (ActivityHas (λ k. k < s.unused))) here (slice_each (ActivityHas (λ k. k < s.unused)) s.activities s.current formed.own.below.activities) in
       let was = subst (InSome AreInOrder) here (slice_each AreInOrder s.activities s.current formed.order) in
@@ -124,17 +124,17 @@ module _ (home : ℕ → ℕ) (s : State) (formed : IsFormed home s) where
       (in_order now (shape_order s.unused (numbers (a ∷ older)) (numbers_in now) turned.3 (numbers_each (λ k. k < s.unused) (a ∷ older) below) was))))
 
   pub before : IsAsBefore s t
-  before = step_turns s formed.world.core (λ (u : State). IsAsBefore s u) (as_it_is s) (λ a older here turned. turned.4)
+  before = step_turns s formed.world.0 (λ (u : State). IsAsBefore s u) (as_it_is s) (λ a older here turned. turned.4)
 
   more : length s.things ≤ length t.things
   more = grown_length s.things t.things (grows s.things t.things before.things)
 
   world_kept : IsWorld t
   world_kept =
-      let core : HasCore s = formed.world.core in
+      let core : HasCore s = formed.world.0 in
       let le = more in
-      record {
-        core = record {
+      (
+        record {
           nil = subst (λ (c : Core). c.nil < length t.things) (sym before.core) (omega (arith, core.nil, le));
           yes = subst (λ (c : Core). c.yes < length t.things) (sym before.core) (omega (arith, core.yes, le));
           no = subst (λ (c : Core). c.no < length t.things) (sym before.core) (omega (arith, core.no, le));
@@ -144,14 +144,16 @@ module _ (home : ℕ → ℕ) (s : State) (formed : IsFormed home s) where
           blocks = subst (λ (c : Core). c.blocks < length t.things) (sym before.core) (omega (arith, core.blocks, le));
           fixed = subst (λ (n : ℕ). n + 26 ≤ length t.things) (sym before.fixed) (omega (arith, core.fixed, le));
           failure = subst (λ (names : List (List ℕ)). Takes names (number_of names (codes "value:With:")) 2) (sym before.names) core.failure;
-        };
-        code = subst (Each (IsSaid t.names (length t.things))) (sym before.bodies)
-            (subst (λ (names : List (List ℕ)). Each (IsSaid names (length t.things)) s.bodies) (sym before.names)
-            (each (IsSaid s.names (length s.things)) (IsSaid s.names (length t.things)) (said_more s.names (length s.things) (length t.things) le) s.bodies formed.world.code));
-        slots = subst (λ (names : List (List ℕ)). Each (ThingFits names t.bodies) t.things) (sym before.names)
-            (subst (λ (bodies : List Body). Each (ThingFits s.names bodies) t.things) (sym before.bodies)
-            (grown_fits s.names s.bodies s.things t.things (grows s.things t.things before.things) formed.world.slots));
-      }
+        },
+        record {
+          code = subst (Each (IsSaid t.names (length t.things))) (sym before.bodies)
+              (subst (λ (names : List (List ℕ)). Each (IsSaid names (length t.things)) s.bodies) (sym before.names)
+              (each (IsSaid s.names (length s.things)) (IsSaid s.names (length t.things)) (said_more s.names (length s.things) (length t.things) le) s.bodies formed.world.1.code));
+          slots = subst (λ (names : List (List ℕ)). Each (ThingFits names t.bodies) t.things) (sym before.names)
+              (subst (λ (bodies : List Body). Each (ThingFits s.names bodies) t.things) (sym before.bodies)
+              (grown_fits s.names s.bodies s.things t.things (grows s.things t.things before.things) formed.world.1.slots));
+        },
+      )
 
   after : IsWellAfter home s t
   after = steps_keep home s formed.well formed.own (next_accepts home s formed)
@@ -175,11 +177,11 @@ module _ (home : ℕ → ℕ) (s : State) (formed : IsFormed home s) where
   initial_still : (d : Datum) → IsGiven (length s.things) d → Still (value_of s.core d)
   initial_still (datum.Integer i) e = tt
   initial_still (datum.Object o) e = let le = more in omega (arith, e, le)
-  initial_still datum.Nil e = let le = more in omega (arith, formed.world.core.nil, le)
+  initial_still datum.Nil e = let le = more in omega (arith, formed.world.0.nil, le)
 
   ground : Ground Still (length t.things) (λ o lt. lt) s
   ground =
-      let core : HasCore s = formed.world.core in
+      let core : HasCore s = formed.world.0 in
       let le = more in
       record {
         few = le;

@@ -153,8 +153,8 @@ module _ (home : ℕ → ℕ) (s : State) (formed : IsFormed home s) where
 
   own_there : (x : Thing) → ThingHolds (IsThere home s) x → Slots (slots_of s.core x)
   own_there (Plain slots) e = e
-  own_there (Vector items) e = (formed.world.core.vectors, tt)
-  own_there (Text bytes) e = (formed.world.core.strings, tt)
+  own_there (Vector items) e = (formed.world.0.vectors, tt)
+  own_there (Text bytes) e = (formed.world.0.strings, tt)
 
   all_there : (xs : List Thing) → Each (ThingHolds (IsThere home s)) xs → Each Slots (map (slots_of s.core) xs)
   all_there [] e = tt

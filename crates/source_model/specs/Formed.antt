@@ -11,10 +11,10 @@ use Rattle.self_terms.specs.declared.bodies.Local.{Local}
 use Rattle.self_terms.specs.Names.{text_of}
 use Rattle.source_model.specs.Names.{number_of, text_named}
 use Rattle.source_model.specs.Objects.{Object, Slot, Content, Constant, Assignable, Assignment, Parent, Method, Thing, Plain, Vector, Text, is_assignable}
-use Rattle.source_model.specs.State.{Activation, Activity, Running, Answered, Failed, State, Reached}
+use Rattle.source_model.specs.State.{Core, Activation, Activity, Running, Answered, Failed, State, Reached}
 use Rattle.source_model.specs.Step.{step, run}
 use Rattle.source_model.specs.Canon.{Each, HasOwnNumbers}
-use Rattle.source_model.specs.Soundness.{body_in, HasBody, IsWell, numbers}
+use Rattle.source_model.specs.Soundness.{body_in, HasBody, IsFit, IsWell, numbers}
 
 -- Names.
 
@@ -120,8 +120,13 @@ abbrev pub AreTied : List (List ℕ) → Option Slot → Object → Type 0
 AreTied names front [] = Unit {0}
 AreTied names front (x ∷ more) = Follows names front x × AreTied names (Some x) more
 
+-- no two slots have one name
+abbrev pub AreApart : Object → Type 0
+AreApart [] = Unit {0}
+AreApart (x ∷ more) = Each (λ y. y.name ≡ x.name → ⊥) more × AreApart more
+
 abbrev pub ThingFits : List (List ℕ) → List Body → Thing → Type 0
-ThingFits names bodies (Plain slots) = Each (SlotFits names bodies) slots × AreTied names None slots
+ThingFits names bodies (Plain slots) = Each (SlotFits names bodies) slots × AreTied names None slots × AreApart slots
 ThingFits names bodies (Vector items) = Unit {0}
 ThingFits names bodies (Text bytes) = Unit {0}
 
@@ -139,24 +144,29 @@ AreInOrder (Failed e p) = Unit {0}
 
 -- States.
 
--- the objects that the language itself knows are there, with the strings that every world has; and the message that a failed
--- primitive sends takes two arguments
-pub record HasCore (s : State) : Type 0 where
-  pub nil : s.core.nil < length s.things
-  pub yes : s.core.yes < length s.things
-  pub no : s.core.no < length s.things
-  pub integers : s.core.integers < length s.things
-  pub strings : s.core.strings < length s.things
-  pub vectors : s.core.vectors < length s.things
-  pub blocks : s.core.blocks < length s.things
-  pub fixed : s.fixed + 26 ≤ length s.things
-  pub failure : Takes s.names (number_of s.names (codes "value:With:")) 2
+-- the objects that the language itself knows are there, as some of so many things, with the strings that every world has; and
+-- the message that a failed primitive sends takes two arguments
+pub record IsCore (names : List (List ℕ)) (core : Core) (first_fixed things : ℕ) : Type 0 where
+  pub nil : core.nil < things
+  pub yes : core.yes < things
+  pub no : core.no < things
+  pub integers : core.integers < things
+  pub strings : core.strings < things
+  pub vectors : core.vectors < things
+  pub blocks : core.blocks < things
+  pub fixed : first_fixed + 26 ≤ things
+  pub failure : Takes names (number_of names (codes "value:With:")) 2
+
+abbrev pub HasCore : State → Type 0
+HasCore s = IsCore s.names s.core s.fixed (length s.things)
 
 -- code and objects alone
-pub record IsWorld (s : State) : Type 0 where
-  pub core : HasCore s
-  pub code : Each (IsSaid s.names (length s.things)) s.bodies
-  pub slots : Each (ThingFits s.names s.bodies) s.things
+pub record AreWorld (names : List (List ℕ)) (bodies : List Body) (things : List Thing) : Type 0 where
+  pub code : Each (IsSaid names (length things)) bodies
+  pub slots : Each (ThingFits names bodies) things
+
+abbrev pub IsWorld : State → Type 0
+IsWorld s = HasCore s × AreWorld s.names s.bodies s.things
 
 -- `home` tells of each number of an activation what body it had
 pub record IsFormed (home : ℕ → ℕ) (s : State) : Type 0 where
@@ -168,6 +178,22 @@ pub record IsFormed (home : ℕ → ℕ) (s : State) : Type 0 where
 
 abbrev pub IsWellFormed : State → Type 0
 IsWellFormed s = (home : ℕ → ℕ) × IsFormed home s
+
+-- A session begins with no activity, with bodies that fit, and with values that are there, none of which is a block.
+
+abbrev pub IsPlain : ℕ → Value → Type 0
+IsPlain things (values.Int i) = Unit {0}
+IsPlain things (values.Object o) = o < things
+IsPlain things (values.Block b maker) = ⊥
+
+pub record CanBegin (s : State) : Type 0 where
+  pub none : s.activities ≡ []
+  pub bodies : (n : ℕ) → HasBody s.bodies n → IsFit s.bodies n
+  pub values : Each (ThingHolds (IsPlain (length s.things))) s.things
+  pub world : IsWorld s
+
+abbrev pub BeginsFormed : Type 0
+BeginsFormed = (s : State) → CanBegin s → IsWellFormed s
 
 -- each step keeps it, so each run
 abbrev pub StepsForm : Type 0
