@@ -85,15 +85,15 @@ module _ (home : ℕ → ℕ) (s : State) (formed : IsFormed home s) where
   count = length-map s.things (slots_of s.core)
 
   -- what is found in an object fits its name; else it is the own method of a block
-  abbrev InObject : ℕ → ℕ → Content → Type 0
+  abbrev pub InObject : ℕ → ℕ → Content → Type 0
   InObject name o c = (o < length s.things) × ContentFits s.names s.bodies name c
 
-  abbrev IsOwn : Value → ℕ → Content → Type 0
+  abbrev pub IsOwn : Value → ℕ → Content → Type 0
   IsOwn (values.Block b k) name (Method c) = (c ≡ b) × (name ≡ number_of s.names (evaluator (length (body_of s b.0).arguments)))
   IsOwn v name (Method c) = ⊥
   IsOwn v name c = Unit {0}
 
-  abbrev MetFits : Value → ℕ → Met → Type 0
+  abbrev pub MetFits : Value → ℕ → Met → Type 0
   MetFits v name (Missing e) = Unit {0}
   MetFits v name (Holds o c) = InObject name o c ⊎ ((o ≡ length s.things) × IsOwn v name c)
 

@@ -51,7 +51,7 @@ module _ (V W : Value → Type 0) (h : (v : Value) → V v → W v) where
     pending = each V W h a.pending e.pending;
   }
 
-  activity_holds : (x : Activity) → ActivityHolds V x → ActivityHolds W x
+  pub activity_holds : (x : Activity) → ActivityHolds V x → ActivityHolds W x
   activity_holds (Running all) e = each (ActivationHolds V) (ActivationHolds W) activation_holds all e
   activity_holds (Answered v) e = tt
   activity_holds (Failed x p) e = tt
