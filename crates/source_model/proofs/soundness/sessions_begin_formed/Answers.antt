@@ -1,5 +1,3 @@
-use Rattle.source_model.proofs.MoreBodies.{new_said}
-use Rattle.source_model.proofs.Commanding.{command_done}
 use Rattle.source_model.proofs.Beginning.{begins}
 use Rattle.source_model.proofs.soundness.sessions_begin_formed.Goals as goal
 
