@@ -17,9 +17,10 @@ use Rattle.source_model.specs.Edits.{Initial, Number, String, Path, Nothing, Loc
 use Rattle.source_model.specs.Script.{EditText, Read, Unread, Edit, refused, edit_done, edit, command, commands, Command, behind}
 use Rattle.source_model.specs.Canon.{Each}
 use Rattle.source_model.specs.Soundness.{body_in, HasBody, IsFit, IsActivity}
-use Rattle.source_model.specs.Formed.{Takes, IsGiven, IsSaid, ContentHolds, SlotHolds, ThingHolds, ActivityHolds, StateHolds, IsThere, ContentFits, SlotFits, Follows, AreTied, AreApart, ThingFits, HasCore, IsFormed, IsWellFormed}
+use Rattle.source_model.specs.Formed.{Takes, IsGiven, IsSaid, ContentHolds, SlotHolds, ThingHolds, ActivityHolds, StateHolds, IsThere, ContentFits, SlotFits, Follows, AreTied, ThingFits, HasCore, IsFormed, IsWellFormed}
 use Rattle.source_model.specs.Told.{told_local, told_body, told, InitialFits, IsSlotText, CommandFits, CommandsForm, ScriptsForm}
 use Rattle.source_model.proofs.Having.{each}
+use Rattle.source_model.proofs.Once.{AreApart, to_apart, from_apart}
 use Rattle.source_model.proofs.Keeping.{append_each, slice_each, find_each, either, InSome}
 use Rattle.source_model.proofs.KeepingCommands.{command_keeps}
 use Rattle.source_model.proofs.Forming.{thing_holds, activity_holds, said_more}
@@ -278,7 +279,7 @@ module _ (home : ℕ → ℕ) (s : State) (formed : IsFormed home s) where
     Takes' (Text bytes) = Unit {0}
 
     thing_fits : (x : Thing) → Takes' x → ThingFits s.names all x → ThingFits s.names all (with_slots (replaced name (Method b)) x)
-    thing_fits (Plain slots) m e = (slots_fit slots e.0, tied None slots tt m e.1, apart slots e.2)
+    thing_fits (Plain slots) m e = (slots_fit slots e.0, tied None slots tt m e.1, from_apart (replaced name (Method b) slots) (apart slots (to_apart slots e.2)))
     thing_fits (Vector items) m e = tt
     thing_fits (Text bytes) m e = tt
 
@@ -366,7 +367,7 @@ module _ (home : ℕ → ℕ) (s : State) (formed : IsFormed home s) where
     taken_by (Some (Vector items)) same e d = absurd (cc)
     taken_by (Some (Text bytes)) same e d = absurd (cc)
     taken_by (Some (Plain slots)) same e d =
-        subst (InSome (Takes' all t.name first method)) (sym (get_front s.things (map Text t.strings) o (Plain slots) same)) (methods t.name slots old e.2 d)
+        subst (InSome (Takes' all t.name first method)) (sym (get_front s.things (map Text t.strings) o (Plain slots) same)) (methods t.name slots old (to_apart slots e.2) d)
 
     taken : InSome (Takes' all t.name first method) (slice_get (s.things ++ map Text t.strings) o)
     taken = taken_by (slice_get s.things o) refl (slice_each (ThingFits s.names s.bodies) s.things o formed.world.1.slots) there

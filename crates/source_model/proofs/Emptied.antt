@@ -7,9 +7,10 @@ use Rattle.self_terms.specs.declared.bodies.Body.{Body}
 use Rattle.source_model.specs.Names.{text_named}
 use Rattle.source_model.specs.Objects.{Object, Slot, Content, Constant, Assignable, Assignment, Parent, Method, Thing, Plain, Vector, Text, is_assignable, parent_of, with_data, with_content, stored, with_slots, changed_at}
 use Rattle.source_model.specs.Canon.{Each}
-use Rattle.source_model.specs.Formed.{ContentFits, SlotFits, Follows, AreTied, AreApart, ThingFits}
+use Rattle.source_model.specs.Formed.{ContentFits, SlotFits, Follows, AreTied, ThingFits}
 use Rattle.source_model.specs.Lasting.{emptied}
 use Rattle.source_model.proofs.Alike.{slot_with}
+use Rattle.source_model.proofs.Once.{AreApart, to_apart, from_apart}
 use Rattle.source_model.proofs.Keeping.{append_each, slice_each, InSome}
 use Rattle.source_model.proofs.HoldingNodes.{IsNew, IsPut}
 use Rattle.source_model.proofs.Turning.{Changed, Same, Stored, Made, Put}
@@ -158,13 +159,13 @@ module _ (names : List (List ℕ)) (bodies : List Body) where
 
   things_to : (xs : List Thing) → Each (ThingFits names bodies) xs → Each (ThingFits names bodies) (map bare_thing xs)
   things_to [] e = tt
-  things_to (Plain slots ∷ xs) e = ((slots_to slots e.0.0, tied_to None slots e.0.1, apart_to slots e.0.2), things_to xs e.1)
+  things_to (Plain slots ∷ xs) e = ((slots_to slots e.0.0, tied_to None slots e.0.1, from_apart (map bare slots) (apart_to slots (to_apart slots e.0.2))), things_to xs e.1)
   things_to (Vector items ∷ xs) e = (tt, things_to xs e.1)
   things_to (Text bytes ∷ xs) e = (tt, things_to xs e.1)
 
   things_from : (xs : List Thing) → Each (ThingFits names bodies) (map bare_thing xs) → Each (ThingFits names bodies) xs
   things_from [] e = tt
-  things_from (Plain slots ∷ xs) e = ((slots_from slots e.0.0, tied_from None slots e.0.1, apart_from slots e.0.2), things_from xs e.1)
+  things_from (Plain slots ∷ xs) e = ((slots_from slots e.0.0, tied_from None slots e.0.1, from_apart slots (apart_from slots (to_apart (map bare slots) e.0.2))), things_from xs e.1)
   things_from (Vector items ∷ xs) e = (tt, things_from xs e.1)
   things_from (Text bytes ∷ xs) e = (tt, things_from xs e.1)
 

@@ -10,7 +10,7 @@ use Rattle.self_terms.specs.declared.bodies.Body.{Body}
 use Rattle.self_terms.specs.declared.bodies.Local.{Local}
 use Rattle.self_terms.specs.Names.{text_of}
 use Rattle.source_model.specs.Names.{number_of, text_named}
-use Rattle.source_model.specs.Objects.{Object, Slot, Content, Constant, Assignable, Assignment, Parent, Method, Thing, Plain, Vector, Text, is_assignable}
+use Rattle.source_model.specs.Objects.{Object, Slot, Content, Constant, Assignable, Assignment, Parent, Method, Thing, Plain, Vector, Text, AreNamedOnce, is_assignable}
 use Rattle.source_model.specs.State.{Core, Activation, Activity, Running, Answered, Failed, State, Reached}
 use Rattle.source_model.specs.Step.{step, run}
 use Rattle.source_model.specs.Canon.{Each, HasOwnNumbers}
@@ -120,13 +120,8 @@ abbrev pub AreTied : List (List ℕ) → Option Slot → Object → Type 0
 AreTied names front [] = Unit {0}
 AreTied names front (x ∷ more) = Follows names front x × AreTied names (Some x) more
 
--- no two slots have one name
-abbrev pub AreApart : Object → Type 0
-AreApart [] = Unit {0}
-AreApart (x ∷ more) = Each (λ y. y.name ≡ x.name → ⊥) more × AreApart more
-
 abbrev pub ThingFits : List (List ℕ) → List Body → Thing → Type 0
-ThingFits names bodies (Plain slots) = Each (SlotFits names bodies) slots × AreTied names None slots × AreApart slots
+ThingFits names bodies (Plain slots) = Each (SlotFits names bodies) slots × AreTied names None slots × AreNamedOnce slots
 ThingFits names bodies (Vector items) = Unit {0}
 ThingFits names bodies (Text bytes) = Unit {0}
 
