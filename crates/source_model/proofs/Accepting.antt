@@ -28,7 +28,7 @@ use Rattle.source_model.proofs.Naming.{takes_one, evaluator_takes}
 -- A slot that is found in a list of slots: one of them, with this name.
 
 module _ (Q : Slot → Type 0) (name : ℕ) where
-  abbrev IsFound : Option Slot → Type 0
+  abbrev pub IsFound : Option Slot → Type 0
   IsFound None = Unit {0}
   IsFound (Some x) = Q x × (x.name ≡ name)
 
@@ -36,7 +36,7 @@ module _ (Q : Slot → Type 0) (name : ℕ) where
   found_or x true m e q h = (q, eqb-true x.name name e)
   found_or x false m e q h = h
 
-  found_in : (slots : Object) → Each Q slots → IsFound (slot_named name slots)
+  pub found_in : (slots : Object) → Each Q slots → IsFound (slot_named name slots)
   found_in [] e = tt
   found_in (x ∷ xs) e = found_or x (has_name name x) (slot_named name xs) refl e.0 (found_in xs e.1)
 

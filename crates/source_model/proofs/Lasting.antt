@@ -20,7 +20,7 @@ use Rattle.source_model.proofs.Alike.{slot_with, met_with}
 use Rattle.source_model.proofs.Alike as alike
 use Rattle.source_model.proofs.HoldingNodes.{IsNew}
 use Rattle.source_model.proofs.Turning.{IsAsBefore}
-use Rattle.source_model.proofs.Emptied.{bare, bare_thing, Grown, grows}
+use Rattle.source_model.proofs.Emptied.{bare, bare_thing, Grown, grows, grown_length}
 use Rattle.source_model.proofs.Forming.{before}
 
 -- Slots that are the same but for data.
@@ -225,7 +225,7 @@ module _ (home : ℕ → ℕ) (s : State) (formed : IsFormed home s) where
   through holder parent name lt = through_by grown parent name holder lt
 
   pub lookups_last : LookupsLast s t
-  lookups_last = record { sent = sent; above = above; through = through }
+  lookups_last = record { there = grown_length s.things t.things grown; sent = sent; above = above; through = through }
 
 pub steps_last : StepsLast
 steps_last s e = lookups_last e.0 s e.1
