@@ -16,7 +16,8 @@ use Rattle.source_model.specs.Messages.{body_of, value_of}
 use Rattle.source_model.specs.Sends.{Here}
 use Rattle.source_model.specs.Step.{node_at, step, onward, run}
 use Rattle.source_model.specs.Canon.{Each, ActivityHas, ActivationHas, HasOwnNumbers}
-use Rattle.source_model.specs.Soundness.{body_in, HasBody, Names, IsFit, IsWell, IsWellAfter, IsActivity, numbers}
+use Rattle.source_model.specs.Soundness.{body_in, HasBody, Names, IsFit, IsWell, IsActivity, numbers}
+use Rattle.source_model.proofs.Kept.{IsWellAfter}
 use Rattle.source_model.specs.Formed.{Takes, HasText, Says, IsGiven, IsSaid, ContentHolds, SlotHolds, ThingHolds, ActivationHolds, ActivityHolds, StateHolds, IsThere, ThingFits, Descend, AreInOrder, HasCore, IsWorld, IsFormed, IsWellFormed}
 use Rattle.source_model.proofs.Having.{each}
 use Rattle.source_model.proofs.Keeping.{set_each, get_each, slice_each, InSome}
