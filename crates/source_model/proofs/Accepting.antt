@@ -91,6 +91,7 @@ module _ (home : ℕ → ℕ) (s : State) (formed : IsFormed home s) where
   abbrev pub IsOwn : Value → ℕ → Content → Type 0
   IsOwn (values.Block b k) name (Method c) = (c ≡ b) × (name ≡ number_of s.names (evaluator (length (body_of s b.0).arguments)))
   IsOwn v name (Method c) = ⊥
+  IsOwn v name Assignment = ⊥
   IsOwn v name c = Unit {0}
 
   abbrev pub MetFits : Value → ℕ → Met → Type 0
@@ -159,12 +160,18 @@ module _ (home : ℕ → ℕ) (s : State) (formed : IsFormed home s) where
   block_accepts (values.Block c k) b name args there own t =
       record { given = there.0; arguments = evaluator_takes s.names name (length (body_of s c.0).arguments) args own.1 t; outer = there.1 }
 
+  not_owned : (v : Value) (name : ℕ) → IsOwn v name Assignment → ⊥
+  not_owned (values.Int i) name e = e
+  not_owned (values.Object o) name e = e
+  not_owned (values.Block b k) name e = e
+
   pub accepts : (m : Message) (name : ℕ) (met : Met) → IsThere home s m.receiver → Takes s.names name (length m.arguments) → MetFits m.receiver name met → MetAccepts home s m met
   accepts m name (Missing e) there t fits = tt
   accepts m name (Holds o (Constant v)) there t fits = tt
   accepts m name (Holds o (Assignable v)) there t fits = tt
   accepts m name (Holds o (Parent p)) there t fits = tt
-  accepts m name (Holds o Assignment) there t fits = tt
+  accepts m name (Holds o Assignment) there t (inl h) = takes_one s.names name (length m.arguments) 1 t h.1
+  accepts m name (Holds o Assignment) there t (inr h) = absurd (not_owned m.receiver name h.1)
   accepts m name (Holds o (Method b)) there t (inl h) = (
     (λ e. record { given = h.1.0; arguments = takes_one s.names name (length (body_in s.bodies b.0).arguments) (length m.arguments) h.1.1 t; outer = h.1.2 }),
     (λ e. absurd (before o h.0 e)),

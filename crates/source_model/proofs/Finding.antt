@@ -1,18 +1,22 @@
 -- What is found in a well-formed state.
-use Rattle.std.proofs.Common.{◌≡◌, ℕ, zero, suc, ◌+◌, ap, sym, subst, refl, ◌∙◌, arith, Bool, true, false, List, [], ◌∷◌, ◌++◌, map}
+use Rattle.std.proofs.Common.{◌≡◌, ℕ, zero, suc, ◌+◌, ap, sym, subst, refl, ◌∙◌, arith, Bool, true, false, List, [], ◌∷◌, ◌++◌, inl, inr, map}
 use Rattle.std.specs.Prelude.{◌==◌, slice_get, slice_set, Option, Some, None, cond, codes}
 use Rattle.std.proofs.lemmas.Bool.{eqb-true, ne_eqb, eq-eqb}
 use Rattle.self_terms.specs.declared.values.Value.{Value}
 use Rattle.self_terms.specs.declared.bodies.Body.{Body}
 use Rattle.source_model.specs.Names.{text_named}
 use Rattle.source_model.specs.Objects.{Object, Slot, Content, Constant, Assignable, Assignment, Parent, Method, Thing, Plain, Vector, Text, AreNamedOnce, is_assignable, has_name, slots_at, slot_named, with_data, with_content, stored}
-use Rattle.source_model.specs.State.{Core, State}
+use Rattle.source_model.specs.State.{Core, Activation, State}
+use Rattle.source_model.specs.Sends.{beyond_home}
+use Rattle.source_model.specs.Lookup.{Among}
+use Rattle.source_model.specs.Soundness.{body_in, numbers, HasMaker, AreCallers, IsActivity}
 use Rattle.source_model.specs.Messages.{slots_of, objects}
 use Rattle.source_model.specs.Canon.{Each}
 use Rattle.source_model.specs.Formed.{Takes, SlotFits, AreTied, ThingFits, IsFormed}
-use Rattle.source_model.specs.Finding.{FindsMessages, FindsParents, IsAssigned, FindsAssigned}
+use Rattle.source_model.specs.Finding.{FindsMessages, FindsParents, IsAssigned, FindsAssigned, HasHome, FindsHome}
 use Rattle.source_model.proofs.Accepting.{next_accepts, IsFound, found_in}
 use Rattle.source_model.proofs.Lasting.{is_whole}
+use Rattle.source_model.proofs.Keeping.{slice_each, InSome}
 use Rattle.source_model.proofs.Once.{AreApart, to_apart}
 
 module _ (names : List (List ℕ)) (name : ℕ) where
@@ -123,3 +127,37 @@ finds_messages home s formed = next_accepts home s formed
 
 pub finds_parents : FindsParents
 finds_parents home s formed = is_whole home s formed
+
+-- The home of a block.
+
+module _ (bodies : List Body) (home : ℕ → ℕ) where
+  abbrev MakerIn : List Activation → Option ℕ → Type 0
+  MakerIn all None = Unit {0}
+  MakerIn all (Some k) = Among k (numbers all)
+
+  maker_in : (all : List Activation) (m outer : Option ℕ) → HasMaker home all m outer → MakerIn all m
+  maker_in all None outer e = tt
+  maker_in all (Some k) (Some o) e = e.0
+  maker_in all (Some k) None e = absurd e
+
+  of_maker : (a : Activation) (older : List Activation) (m : Option ℕ) → a.maker ≡ m → HasHome m older → (younger : List Activation) × ((h : Activation) × ((a ∷ older ≡ younger ++ h ∷ beyond_home m older) × (h.maker ≡ None)))
+  of_maker a [] None e has = ([], (a, (refl, e)))
+  of_maker a (b ∷ older) None e has = ([], (a, (refl, e)))
+  of_maker a older (Some k) e has = (a ∷ has.0, (has.1.0, (ap (λ (xs : List Activation). a ∷ xs) has.1.1.0, has.1.1.1)))
+
+  home_or : (k : ℕ) (a : Activation) (older : List Activation) (b : Bool) → (a.number == k) ≡ b → HasHome a.maker older → (Among k (numbers older) → HasHome (Some k) older) → Among k (numbers (a ∷ older))
+      → (younger : List Activation) × ((h : Activation) × ((a ∷ older ≡ younger ++ h ∷ beyond_home (cond b a.maker (Some k)) older) × (h.maker ≡ None)))
+  home_or k a older true e has next among = of_maker a older a.maker refl has
+  home_or k a older false e has next (inl same) = absurd (let bad : true ≡ false = sym (eq-eqb a.number k (sym same)) ∙ e in cc)
+  home_or k a older false e has next (inr later) = let h = next later in (a ∷ h.0, (h.1.0, (ap (λ (xs : List Activation). a ∷ xs) h.1.1.0, h.1.1.1)))
+
+  pub has_home : (all : List Activation) → AreCallers bodies home all → (m : Option ℕ) → MakerIn all m → HasHome m all
+  has_home all callers None e = tt
+  has_home [] callers (Some k) e = absurd e
+  has_home (a ∷ older) callers (Some k) e =
+      home_or k a older (a.number == k) refl (has_home older callers.2 a.maker (maker_in older a.maker (body_in bodies a.body).outer callers.0.maker)) (has_home older callers.2 (Some k)) e
+
+pub finds_home : FindsHome
+finds_home home s a older formed here =
+    let live = subst (InSome (IsActivity s.bodies home)) here (slice_each (IsActivity s.bodies home) s.activities s.current formed.well.activities) in
+    has_home s.bodies home older live.2 a.maker (maker_in s.bodies home older a.maker (body_in s.bodies a.body).outer live.0.maker)

@@ -1,10 +1,11 @@
 -- What is found in a well-formed state.
-use Rattle.std.specs.Prelude.{◌≡◌, ℕ, suc, List, ◌++◌, slice_get, slice_set, Some, codes}
+use Rattle.std.specs.Prelude.{◌≡◌, ℕ, suc, List, ◌++◌, slice_get, slice_set, ◌∷◌, Option, Some, None, codes}
 use Rattle.self_terms.specs.declared.values.Value.{Value}
 use Rattle.source_model.specs.Names.{text_named}
 use Rattle.source_model.specs.Objects.{Object, Slot, Assignable, Assignment, IsWhole, slots_at, slot_named, stored}
-use Rattle.source_model.specs.State.{State}
+use Rattle.source_model.specs.State.{Activation, Running, State}
 use Rattle.source_model.specs.Messages.{objects}
+use Rattle.source_model.specs.Sends.{beyond_home}
 use Rattle.source_model.specs.Soundness.{NextAccepts}
 use Rattle.source_model.specs.Formed.{Takes, IsFormed}
 
@@ -30,3 +31,11 @@ pub record IsAssigned (names : List (List ℕ)) (slots : Object) (name : ℕ) : 
 abbrev pub FindsAssigned : Type 0
 FindsAssigned = (home : ℕ → ℕ) (s : State) (o name : ℕ) → IsFormed home s
     → slot_named name (slots_at (objects s) o) ≡ Some (record { name = name; content = Assignment }) → Takes s.names name 1 × IsAssigned s.names (slots_at (objects s) o) name
+
+-- a block's home method is live in its activity, so that its non-local return leads to what is directly older than the home
+abbrev pub HasHome : Option ℕ → List Activation → Type 0
+HasHome None older = Unit {0}
+HasHome (Some k) older = (younger : List Activation) × ((home : Activation) × ((older ≡ younger ++ home ∷ beyond_home (Some k) older) × (home.maker ≡ None)))
+
+abbrev pub FindsHome : Type 0
+FindsHome = (home : ℕ → ℕ) (s : State) (a : Activation) (older : List Activation) → IsFormed home s → slice_get s.activities s.current ≡ Some (Running (a ∷ older)) → HasHome a.maker older
