@@ -1,4 +1,4 @@
--- A state that passes the test may begin.
+-- A state that passes the test may begin, and a command that passes it fits.
 use Rattle.std.proofs.Common.{◌≡◌, ℕ, zero, suc, ◌+◌, ◌-◌, ◌<◌, ◌≤◌, ap, sym, subst, refl, ◌∙◌, arith, Bool, true, false, List, [], ◌∷◌, ◌++◌, ◌⊎◌, inl, inr, length}
 use Rattle.std.specs.Prelude.{◌==◌, ◌&&◌, ◌||◌, nat_lt, nat_le, not, is_some, Option, Some, None, cond, codes}
 use Rattle.std.proofs.lemmas.Bool.{eqb-true, ltb-true, leb-true, cases_eq, eq-eqb, ne_eqb}
@@ -19,7 +19,10 @@ use Rattle.source_model.specs.Step.{node_at}
 use Rattle.source_model.specs.Canon.{Each}
 use Rattle.source_model.specs.Soundness.{body_in, room, around, HasBody, HasOuter, HasLocal, Names, IsFit}
 use Rattle.source_model.specs.Formed.{arity, Takes, HasText, Says, IsGiven, IsSaid, ContentHolds, SlotHolds, ThingHolds, ContentFits, SlotFits, Follows, AreTied, ThingFits, IsPlain, HasCore, CanBegin}
-use Rattle.source_model.specs.Testing.{each_passes, below_pass, takes_in, takes_test, body_test, outer_test, local_test, is_number, names_test, node_test, fit_test, says_test, given_test, said_test, plain_test, content_test, assigns, follows_test, slots_test, thing_test, core_test, none_yet, can_begin}
+use Rattle.source_model.specs.Testing.{each_passes, below_pass, takes_in, takes_test, body_test, outer_test, local_test, is_number, names_test, node_test, fit_test, says_test, given_test, said_test, plain_test, content_test, assigns, follows_test, slots_test, thing_test, core_test, none_yet, can_begin, initial_test, text_test, command_fits}
+use Rattle.source_model.specs.Edits.{Initial, Number, String, Path, Nothing, LocalText, BodyText, SlotText}
+use Rattle.source_model.specs.Script.{Command, Spawn, Switch, Run, Continue, Step, Interrupt, Finish, Stack, Edit, Units, Machine, Advisor, EditText, Read, Unread}
+use Rattle.source_model.specs.Told.{told, InitialFits, IsSlotText, CommandFits}
 use Rattle.source_model.proofs.Naming.{same_text}
 use Rattle.source_model.proofs.Once.{AreApart, from_apart}
 
@@ -308,3 +311,46 @@ module _ (s : State) where
           },
         );
       }
+
+module _ (names : List (List ℕ)) where
+  some_string : (k j : ℕ) → String k ≡ String j → k ≡ j
+  some_string k j e = cc
+
+  initial_of : (strings : ℕ) (x : Initial) → initial_test strings x ≡ true → (k : ℕ) → x ≡ String k → k < strings
+  initial_of strings (Number i) e k d = absurd (cc)
+  initial_of strings (String j) e k d = let lt = ltb-true j strings e in let same = some_string j k d in omega (arith, lt, same)
+  initial_of strings (Path path) e k d = absurd (cc)
+  initial_of strings Nothing e k d = absurd (cc)
+
+  text_of' : (t : SlotText) → text_test names t ≡ true → IsSlotText names t
+  text_of' t e =
+      let strings : ℕ = length t.strings in
+      let fit : Bool = below_pass (length (told t)) (λ k. fit_test (told t) (k + 1)) in
+      let said : Bool = each_passes (said_test names strings) (told t) in
+      let firsts : Bool = each_passes (λ (b : BodyText). each_passes (λ (x : LocalText). initial_test strings x.initial) b.locals) t.bodies in
+      let method : Bool = content_test names (told t) 0 t.name (Method (record { 0 = 1 })) in
+      let e1 = snd fit (said && (firsts && method)) e in
+      let e2 = snd said (firsts && method) e1 in
+      record {
+        bodies = all_fit (told t) (fst fit (said && (firsts && method)) e);
+        said = all_pass (IsSaid names strings) (said_test names strings) (said_of names strings) (told t) (fst said (firsts && method) e1);
+        initials = all_pass (λ (b : BodyText). Each (InitialFits strings) b.locals) (λ (b : BodyText). each_passes (λ (x : LocalText). initial_test strings x.initial) b.locals)
+            (λ b d. all_pass (InitialFits strings) (λ (x : LocalText). initial_test strings x.initial) (λ x f. initial_of strings x.initial f) b.locals d) t.bodies (fst firsts method e2);
+        method = (content_of names 0 (told t) t.name (Method (record { 0 = 1 })) (snd firsts method e2)).1;
+      }
+
+  pub fits_by_test : (c : Command) → command_fits names c ≡ true → CommandFits names c
+  unfolding command_fits
+  fits_by_test (Spawn name) e = eqb-true (arity name) 0 e
+  fits_by_test (Edit path (Read t)) e = text_of' t e
+  fits_by_test (Edit path (Unread kind at_line column)) e = tt
+  fits_by_test (Switch k) e = tt
+  fits_by_test (Run n) e = tt
+  fits_by_test (Continue n) e = tt
+  fits_by_test Step e = tt
+  fits_by_test (Interrupt n) e = tt
+  fits_by_test (Finish n) e = tt
+  fits_by_test Stack e = tt
+  fits_by_test Units e = tt
+  fits_by_test Machine e = tt
+  fits_by_test (Advisor k) e = tt

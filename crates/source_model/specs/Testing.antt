@@ -1,4 +1,4 @@
--- A test of a state with which a session may begin.
+-- Tests by computation: of a state with which a session may begin, and of a command that keeps it well formed.
 use Rattle.std.specs.Prelude.{ℕ, zero, suc, ◌+◌, ◌-◌, ◌&&◌, ◌||◌, ◌==◌, nat_lt, nat_le, Bool, true, false, not, is_some, List, [], ◌∷◌, ◌++◌, length, take, Option, Some, None, codes}
 use Rattle.self_terms.specs.declared.nodes.Node.{Node}
 use Rattle.self_terms.specs.declared.nodes.Node.TheVariants as nodes
@@ -15,7 +15,10 @@ use Rattle.source_model.specs.Objects.{Object, Slot, Content, Constant, Assignab
 use Rattle.source_model.specs.State.{State, Activity}
 use Rattle.source_model.specs.Step.{node_at}
 use Rattle.source_model.specs.Soundness.{body_in, room, around}
+use Rattle.source_model.specs.Edits.{Initial, String, LocalText, BodyText, SlotText}
+use Rattle.source_model.specs.Script.{Command, Spawn, Edit, EditText, Read}
 use Rattle.source_model.specs.Formed.{arity}
+use Rattle.source_model.specs.Told.{told}
 
 -- every element, and every number below one, passes
 abbrev pub each_passes : {A : Type 0} → (A → Bool) → List A → Bool
@@ -141,3 +144,21 @@ can_begin s =
     && (core_test s
     && (below_pass (length s.bodies) (λ k. fit_test s.bodies (k + 1))
     && (each_passes (said_test s.names (length s.things)) s.bodies && each_passes (thing_test s.names s.bodies (length s.things)) s.things)))
+
+-- Commands.
+
+abbrev pub initial_test : ℕ → Initial → Bool
+initial_test strings (String k) = nat_lt k strings
+initial_test strings _ = true
+
+abbrev pub text_test : List (List ℕ) → SlotText → Bool
+text_test names t =
+    below_pass (length (told t)) (λ k. fit_test (told t) (k + 1))
+    && (each_passes (said_test names (length t.strings)) (told t)
+    && (each_passes (λ (b : BodyText). each_passes (λ (x : LocalText). initial_test (length t.strings) x.initial) b.locals) t.bodies
+    && content_test names (told t) 0 t.name (Method (record { 0 = 1 }))))
+
+unfoldable pub command_fits : List (List ℕ) → Command → Bool
+command_fits names (Spawn name) = arity name == 0
+command_fits names (Edit path (Read t)) = text_test names t
+command_fits names _ = true
