@@ -1,26 +1,25 @@
 -- In a well-formed state what a message meets takes as many arguments as it is given.
-use Rattle.std.proofs.Common.{◌≡◌, ℕ, zero, suc, ◌+◌, ◌-◌, ◌<◌, ◌≤◌, ap, sym, subst, refl, ◌∙◌, arith, Bool, true, false, List, [], ◌∷◌, ◌++◌, ◌⊎◌, inl, inr, length, map, get_or}
-use Rattle.std.specs.Prelude.{◌==◌, nat_lt, slice_get, find, Option, Some, None, unwrap_or, cond, codes}
+use Rattle.std.proofs.Common.{◌≡◌, ℕ, zero, suc, ◌-◌, ◌<◌, ◌≤◌, ap, sym, subst, refl, ◌∙◌, arith, Bool, true, false, List, [], ◌∷◌, ◌++◌, ◌⊎◌, inl, inr, length, map}
+use Rattle.std.specs.Prelude.{nat_lt, slice_get, Option, Some, None, unwrap_or, cond, codes}
 use Rattle.std.proofs.lemmas.Bool.{eqb-true, ltb-true, lt-ltb}
-use Rattle.std.proofs.lemmas.List.{length-append, length-map}
+use Rattle.std.proofs.lemmas.List.{length-map}
 use Rattle.self_terms.specs.declared.nodes.Node.{Node}
 use Rattle.self_terms.specs.declared.nodes.Node.TheVariants as nodes
 use Rattle.self_terms.specs.declared.values.Value.{Value}
 use Rattle.self_terms.specs.declared.values.Value.TheVariants as values
 use Rattle.self_terms.specs.declared.values.BodyId.{BodyId}
 use Rattle.self_terms.specs.declared.bodies.Body.{Body}
-use Rattle.self_terms.specs.declared.bodies.Local.{Local}
 use Rattle.self_terms.specs.Depths.{taken}
 use Rattle.source_model.specs.Names.{number_of, evaluator}
 use Rattle.source_model.specs.Objects.{Object, Slot, Content, Constant, Assignable, Assignment, Parent, Method, Thing, Plain, Vector, Text, slots_at, slot_named, has_name}
 use Rattle.source_model.specs.Lookup.{Found, NotUnderstood, One, Ambiguous, lookup, lookup_value, resend, directed}
-use Rattle.source_model.specs.State.{Core, Activation, Activity, Running, State}
-use Rattle.source_model.specs.Messages.{Met, Missing, Holds, body_of, slots_of, objects, held, met_in, met_beside, meets, meets_above, meets_through, kin, block_slots}
+use Rattle.source_model.specs.State.{Activation, Running, State}
+use Rattle.source_model.specs.Messages.{Met, Missing, Holds, body_of, slots_of, objects, held, met_in, meets, meets_above, meets_through, kin, block_slots}
 use Rattle.source_model.specs.Sends.{Here, Message}
-use Rattle.source_model.specs.Step.{value_at, stated, implied, handler_of, node_at, taken as first_values}
+use Rattle.source_model.specs.Step.{value_at, stated, implied, handler_of, node_at}
 use Rattle.source_model.specs.Canon.{Each}
-use Rattle.source_model.specs.Soundness.{body_in, HasBody, IsWell, IsAt, Accepts, BlockAccepts, MetAccepts, HandlerAccepts, NodeAccepts, NextAccepts}
-use Rattle.source_model.specs.Formed.{Takes, Says, IsSaid, ContentFits, SlotFits, AreTied, ThingFits, ActivityHolds, ActivationHolds, StateHolds, IsThere, HasCore, IsWorld, IsFormed}
+use Rattle.source_model.specs.Soundness.{body_in, BlockAccepts, MetAccepts, HandlerAccepts, NodeAccepts, NextAccepts}
+use Rattle.source_model.specs.Formed.{Takes, Says, IsSaid, ContentFits, SlotFits, ThingFits, ActivityHolds, ActivationHolds, IsThere, IsFormed}
 use Rattle.source_model.proofs.Keeping.{get_each, slice_each, InSome}
 use Rattle.source_model.proofs.Soundly.{takes, finds_arguments}
 use Rattle.source_model.proofs.Naming.{takes_one, evaluator_takes}

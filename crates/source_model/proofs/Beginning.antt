@@ -1,8 +1,8 @@
 -- The state with which a session begins is well formed.
-use Rattle.std.proofs.Common.{◌≡◌, ℕ, ◌<◌, ◌≤◌, ap, sym, subst, refl, ◌∙◌, arith, List, [], ◌∷◌, length}
+use Rattle.std.proofs.Common.{◌≡◌, ℕ, ◌<◌, ap, sym, subst, arith, length}
 use Rattle.self_terms.specs.declared.values.Value.{Value}
 use Rattle.self_terms.specs.declared.values.Value.TheVariants as values
-use Rattle.source_model.specs.Objects.{Slot, Content, Constant, Assignable, Assignment, Parent, Method, Thing, Plain, Vector, Text}
+use Rattle.source_model.specs.Objects.{Content, Constant, Assignable, Assignment, Parent, Method, Thing, Plain, Vector, Text}
 use Rattle.source_model.specs.State.{Activity, State}
 use Rattle.source_model.specs.Canon.{Each, ValueHas, ContentHas, SlotHas, ThingHas, ActivityHas, HasOwnNumbers}
 use Rattle.source_model.specs.Soundness.{IsActivity}

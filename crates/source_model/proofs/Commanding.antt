@@ -1,6 +1,6 @@
 -- Commands keep a state well formed.
-use Rattle.std.proofs.Common.{◌≡◌, ℕ, zero, suc, ◌+◌, ◌-◌, ◌<◌, ◌≤◌, ap, sym, subst, refl, ◌∙◌, arith, Bool, true, false, List, [], ◌∷◌, ◌++◌, ◌⊎◌, inl, inr, length, map}
-use Rattle.std.specs.Prelude.{◌==◌, nat_lt, nat_le, slice_get, Option, Some, None, cond, Ok, Err, ℤ, codes, get_or}
+use Rattle.std.proofs.Common.{◌≡◌, ℕ, zero, suc, ◌+◌, ◌-◌, ◌<◌, ap, sym, subst, refl, ◌∙◌, arith, Bool, true, false, List, [], ◌∷◌, inl, inr, length}
+use Rattle.std.specs.Prelude.{◌==◌, nat_lt, nat_le, slice_get, Option, Some, None, cond, Ok, Err, codes}
 use Rattle.self_terms.specs.declared.values.Value.{Value}
 use Rattle.self_terms.specs.declared.values.Value.TheVariants as values
 use Rattle.self_terms.specs.declared.values.BodyId.{BodyId}
@@ -8,21 +8,19 @@ use Rattle.self_terms.specs.declared.values.Datum.{Datum}
 use Rattle.self_terms.specs.declared.values.Datum.TheVariants as datum
 use Rattle.self_terms.specs.declared.bodies.Local.{Local}
 use Rattle.self_terms.specs.declared.errors.ErrorName.TheVariants as errors
-use Rattle.self_terms.specs.Names.{text_of}
 use Rattle.source_model.specs.Names.{number_of}
-use Rattle.source_model.specs.Objects.{Content, Constant, Assignable, Assignment, Parent, Method}
+use Rattle.source_model.specs.Objects.{Constant, Assignable, Assignment, Parent, Method}
 use Rattle.source_model.specs.State.{Activation, Activity, Running, Answered, Failed, State, Reached, silent}
 use Rattle.source_model.specs.Messages.{Met, Missing, Holds, body_of, value_of, meets}
 use Rattle.source_model.specs.Sends.{then_do, begun, entered, entry_cost, enters}
 use Rattle.source_model.specs.Step.{step, onward, run}
-use Rattle.source_model.specs.Script.{Command, Spawn, Switch, Run, Continue, Step, Interrupt, Finish, Stack, Edit, Units, Machine, Advisor, EditText, refused, spawned, with_activity, spawn_met, spawn, switch, over, with_run_line, lacks, finish, continue_to, shows, edit, advisor, command, commands, behind}
+use Rattle.source_model.specs.Script.{Command, Spawn, Switch, Run, Continue, Step, Interrupt, Finish, Stack, Edit, Units, Machine, Advisor, EditText, refused, spawned, with_activity, spawn_met, spawn, switch, over, with_run_line, lacks, finish, continue_to, shows, edit, advisor, command}
 use Rattle.source_model.specs.Canon.{Each}
-use Rattle.source_model.specs.Soundness.{body_in, HasBody, IsWell, Accepts}
-use Rattle.source_model.specs.Formed.{arity, Takes, IsGiven, ContentFits, SlotHolds, ThingHolds, ActivationHolds, ActivityHolds, StateHolds, IsThere, AreInOrder, HasCore, IsWorld, IsFormed, IsWellFormed}
-use Rattle.source_model.specs.Told.{CommandFits, CommandsForm, ScriptsForm}
+use Rattle.source_model.specs.Soundness.{body_in, IsWell, Accepts}
+use Rattle.source_model.specs.Formed.{arity, Takes, IsGiven, ThingHolds, ActivationHolds, ActivityHolds, StateHolds, IsThere, AreInOrder, IsWorld, IsFormed, IsWellFormed}
+use Rattle.source_model.specs.Told.{CommandFits}
 use Rattle.source_model.proofs.Having.{each}
 use Rattle.source_model.proofs.Keeping.{either}
-use Rattle.source_model.proofs.KeepingCommands.{command_keeps}
 use Rattle.source_model.proofs.Runs.{until_first}
 use Rattle.source_model.proofs.Spawning.{by_tests, last_each}
 use Rattle.source_model.proofs.Holding.{Ground, begun_holds}
@@ -162,12 +160,18 @@ module _ (home : ℕ → ℕ) (r : Reached) (formed : IsFormed home r.state) whe
 
   -- with another activity as the current one, or an advisor less
   switched : (k n : ℕ) → Done s (record s { current = k; advisors = n })
-  switched k n = (refl, (home, record {
-    order = formed.order;
-    well = record { bodies = formed.well.bodies; activities = formed.well.activities };
-    values = record { things = formed.values.things; activities = formed.values.activities };
-    world = formed.world;
-  }))
+  switched k n = (
+    refl,
+    (
+      home,
+      record {
+        order = formed.order;
+        well = record { bodies = formed.well.bodies; activities = formed.well.activities };
+        values = record { things = formed.values.things; activities = formed.values.activities };
+        world = formed.world;
+      },
+    ),
+  )
 
   switch_done : (k : ℕ) → Next (switch k r)
   switch_done zero = same

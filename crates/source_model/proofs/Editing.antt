@@ -1,5 +1,5 @@
 -- An edit keeps a state well formed, where its text is that of a method slot.
-use Rattle.std.proofs.Common.{◌≡◌, ℕ, zero, suc, ◌+◌, ◌-◌, ◌<◌, ◌≤◌, ap, sym, subst, refl, ◌∙◌, arith, Bool, true, false, List, [], ◌∷◌, ◌++◌, ◌⊎◌, inl, inr, length, map}
+use Rattle.std.proofs.Common.{◌≡◌, ℕ, zero, suc, ◌+◌, ◌<◌, ap, sym, subst, refl, ◌∙◌, arith, Bool, true, false, List, [], ◌∷◌, ◌++◌, length, map}
 use Rattle.std.specs.Prelude.{◌==◌, nat_le, slice_get, Option, Some, None, option_map, option_and_then, fold, cond, Ok, Err, codes, get_or}
 use Rattle.std.proofs.lemmas.Bool.{eqb-true, eq-eqb}
 use Rattle.std.proofs.lemmas.List.{length-append, length-map}
@@ -12,20 +12,20 @@ use Rattle.self_terms.specs.declared.bodies.Body.{Body}
 use Rattle.self_terms.specs.declared.bodies.Local.{Local}
 use Rattle.source_model.specs.Names.{number_of, text_named}
 use Rattle.source_model.specs.Objects.{Object, Slot, Content, Constant, Assignable, Assignment, Parent, Method, Thing, Plain, Vector, Text, is_assignable, slot_named, has_name, with_content, replaced, with_slots, changed_at}
-use Rattle.source_model.specs.State.{Activity, State, Reached}
+use Rattle.source_model.specs.State.{State, Reached}
 use Rattle.source_model.specs.Edits.{Initial, Number, String, Path, Nothing, LocalText, BodyText, SlotText, TooManyNodes, plain_slots, own_content, data_in, further, root, follow, all_some, datum_at, thing_at, initial_in, local_in, node_in, place_in, body_in as made_in, bodies_in, with_method, in_slot, at_path, edited}
-use Rattle.source_model.specs.Script.{EditText, Read, Unread, Edit, refused, edit_done, edit, command, commands, Command, behind}
+use Rattle.source_model.specs.Script.{EditText, Read, Unread, Edit, edit_done, edit, command, commands, Command, behind}
 use Rattle.source_model.specs.Canon.{Each}
-use Rattle.source_model.specs.Soundness.{body_in, HasBody, IsFit, IsActivity}
-use Rattle.source_model.specs.Formed.{Takes, IsGiven, IsSaid, ContentHolds, SlotHolds, ThingHolds, ActivityHolds, StateHolds, IsThere, ContentFits, SlotFits, Follows, AreTied, ThingFits, HasCore, IsFormed, IsWellFormed}
+use Rattle.source_model.specs.Soundness.{IsActivity}
+use Rattle.source_model.specs.Formed.{Takes, IsGiven, IsSaid, ContentHolds, SlotHolds, ThingHolds, ActivityHolds, IsThere, ContentFits, SlotFits, Follows, AreTied, ThingFits, HasCore, IsFormed, IsWellFormed}
 use Rattle.source_model.specs.Told.{told_local, told_body, told, InitialFits, IsSlotText, CommandFits, CommandsForm, ScriptsForm}
 use Rattle.source_model.proofs.Having.{each}
 use Rattle.source_model.proofs.Once.{AreApart, to_apart, from_apart}
 use Rattle.source_model.proofs.Keeping.{append_each, slice_each, find_each, either, InSome}
 use Rattle.source_model.proofs.KeepingCommands.{command_keeps}
 use Rattle.source_model.proofs.Forming.{thing_holds, activity_holds, said_more}
-use Rattle.source_model.proofs.MoreBodies.{IsShift, Shifts, shifts_length, all_fit, new_has, shift_of, new_said, old_body, old_has, old_activity, old_content}
-use Rattle.source_model.proofs.Commanding.{Rest, Done, as_it_was, command_done}
+use Rattle.source_model.proofs.MoreBodies.{IsShift, Shifts, all_fit, new_has, shift_of, new_said, old_body, old_has, old_activity, old_content}
+use Rattle.source_model.proofs.Commanding.{Done, as_it_was, command_done}
 
 -- All there, or nothing.
 

@@ -1,11 +1,10 @@
 -- What a step does to things leaves their slots as they were, but for the data of assignable slots; one thing may come.
-use Rattle.std.proofs.Common.{◌≡◌, ℕ, zero, suc, ◌+◌, ◌<◌, ◌≤◌, ap, sym, subst, refl, ◌∙◌, arith, Bool, true, false, List, [], ◌∷◌, ◌++◌, ◌⊎◌, inl, inr, length, map}
-use Rattle.std.specs.Prelude.{◌==◌, slice_get, slice_set, Option, Some, None, option_map, cond, codes}
+use Rattle.std.proofs.Common.{◌≡◌, ℕ, zero, suc, ◌≤◌, ap, sym, subst, refl, ◌∙◌, arith, Bool, true, false, List, [], ◌∷◌, ◌++◌, ◌⊎◌, inl, inr, length, map}
+use Rattle.std.specs.Prelude.{◌==◌, slice_get, slice_set, Option, Some, None, option_map, cond}
 use Rattle.std.proofs.lemmas.List.{length-append}
 use Rattle.self_terms.specs.declared.values.Value.{Value}
 use Rattle.self_terms.specs.declared.bodies.Body.{Body}
-use Rattle.source_model.specs.Names.{text_named}
-use Rattle.source_model.specs.Objects.{Object, Slot, Content, Constant, Assignable, Assignment, Parent, Method, Thing, Plain, Vector, Text, is_assignable, parent_of, with_data, with_content, stored, with_slots, changed_at}
+use Rattle.source_model.specs.Objects.{Object, Slot, Content, Constant, Assignable, Assignment, Parent, Method, Thing, Plain, Vector, Text, is_assignable, with_data, with_content, stored, with_slots, changed_at}
 use Rattle.source_model.specs.Canon.{Each}
 use Rattle.source_model.specs.Formed.{ContentFits, SlotFits, Follows, AreTied, ThingFits}
 use Rattle.source_model.specs.Lasting.{emptied}

@@ -1,18 +1,18 @@
 -- What is found in a well-formed state.
-use Rattle.std.proofs.Common.{◌≡◌, ℕ, zero, suc, ◌+◌, ap, sym, subst, refl, ◌∙◌, arith, Bool, true, false, List, [], ◌∷◌, ◌++◌, inl, inr, map}
-use Rattle.std.specs.Prelude.{◌==◌, slice_get, slice_set, Option, Some, None, cond, codes}
+use Rattle.std.proofs.Common.{◌≡◌, ℕ, zero, suc, ap, sym, subst, refl, ◌∙◌, Bool, true, false, List, [], ◌∷◌, ◌++◌, inl, inr, map}
+use Rattle.std.specs.Prelude.{◌==◌, Option, Some, None, cond, codes}
 use Rattle.std.proofs.lemmas.Bool.{eqb-true, ne_eqb, eq-eqb}
 use Rattle.self_terms.specs.declared.values.Value.{Value}
 use Rattle.self_terms.specs.declared.bodies.Body.{Body}
 use Rattle.source_model.specs.Names.{text_named}
-use Rattle.source_model.specs.Objects.{Object, Slot, Content, Constant, Assignable, Assignment, Parent, Method, Thing, Plain, Vector, Text, AreNamedOnce, is_assignable, has_name, slots_at, slot_named, with_data, with_content, stored}
-use Rattle.source_model.specs.State.{Core, Activation, State}
+use Rattle.source_model.specs.Objects.{Object, Slot, Content, Constant, Assignable, Assignment, Parent, Method, Thing, Plain, Vector, Text, is_assignable, slots_at, slot_named, with_data, with_content, stored}
+use Rattle.source_model.specs.State.{Core, Activation}
 use Rattle.source_model.specs.Sends.{beyond_home}
 use Rattle.source_model.specs.Lookup.{Among}
 use Rattle.source_model.specs.Soundness.{body_in, numbers, HasMaker, AreCallers, IsActivity}
-use Rattle.source_model.specs.Messages.{slots_of, objects}
+use Rattle.source_model.specs.Messages.{slots_of}
 use Rattle.source_model.specs.Canon.{Each}
-use Rattle.source_model.specs.Formed.{Takes, SlotFits, AreTied, ThingFits, IsFormed}
+use Rattle.source_model.specs.Formed.{Takes, SlotFits, AreTied, ThingFits}
 use Rattle.source_model.specs.Finding.{FindsMessages, FindsParents, IsAssigned, FindsAssigned, HasHome, FindsHome}
 use Rattle.source_model.proofs.Accepting.{next_accepts, IsFound, found_in}
 use Rattle.source_model.proofs.Lasting.{is_whole}

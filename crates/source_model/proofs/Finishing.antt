@@ -1,7 +1,7 @@
 -- An activation is gone as soon as there are fewer activations than when it was the youngest.
-use Rattle.std.proofs.Common.{◌≡◌, ℕ, zero, suc, ◌+◌, ◌<◌, ◌≤◌, ap, sym, subst, refl, ◌∙◌, arith, Bool, true, false, List, [], ◌∷◌, ◌++◌, ◌⊎◌, inl, inr, length, map}
-use Rattle.std.specs.Prelude.{◌==◌, nat_lt, not, is_some, slice_get, slice_set, Option, Some, None, cond}
-use Rattle.std.proofs.lemmas.Bool.{eq-eqb, ne_eqb, eqb-true, lt-ltb, le-ltb}
+use Rattle.std.proofs.Common.{◌≡◌, ℕ, zero, suc, ◌<◌, ap, sym, subst, refl, ◌∙◌, arith, Bool, true, false, List, [], ◌∷◌, ◌++◌, ◌⊎◌, inl, inr, length}
+use Rattle.std.specs.Prelude.{◌==◌, not, is_some, slice_get, slice_set, Option, Some, None, cond}
+use Rattle.std.proofs.lemmas.Bool.{eq-eqb, ne_eqb, lt-ltb, le-ltb}
 use Rattle.std.proofs.lemmas.List.{length-append, length-map}
 use Rattle.source_model.specs.State.{Activation, Activity, Running, Answered, Failed, State, Reached}
 use Rattle.source_model.specs.Sends.{with_number}
@@ -9,11 +9,11 @@ use Rattle.source_model.specs.Step.{step, onward}
 use Rattle.source_model.specs.Script.{until, lacks_in, lacks}
 use Rattle.source_model.specs.Canon.{Each}
 use Rattle.source_model.specs.Soundness.{numbers}
-use Rattle.source_model.specs.Formed.{Descend, AreInOrder, IsFormed, IsWellFormed}
+use Rattle.source_model.specs.Formed.{AreInOrder, IsWellFormed}
 use Rattle.source_model.specs.Lasting.{fewer_in, fewer, FinishesByCount}
 use Rattle.source_model.proofs.Keeping.{slice_each, InSome}
 use Rattle.source_model.proofs.Runs.{stops_now, goes_on}
-use Rattle.source_model.proofs.Turning.{Shape, numbers_in, TurnedAt, step_turns}
+use Rattle.source_model.proofs.Turning.{Shape, numbers_in, step_turns}
 use Rattle.source_model.proofs.Forming.{steps_form}
 
 nil_cons : (A : Type 0) (x : ℕ) (xs : List ℕ) → ◌≡◌ {A = List ℕ} [] (x ∷ xs) → A

@@ -1,6 +1,6 @@
 -- Every step keeps a state well formed.
-use Rattle.std.proofs.Common.{◌≡◌, ℕ, zero, suc, ◌+◌, ◌-◌, ◌<◌, ◌≤◌, ap, sym, subst, refl, ◌∙◌, arith, Bool, true, false, List, [], ◌∷◌, ◌++◌, ◌⊎◌, inl, inr, length, map}
-use Rattle.std.specs.Prelude.{slice_get, slice_set, Option, Some, None, ℤ, codes}
+use Rattle.std.proofs.Common.{◌≡◌, ℕ, zero, suc, ◌+◌, ◌<◌, ◌≤◌, ap, sym, subst, refl, ◌∙◌, arith, List, [], ◌∷◌, ◌++◌, inl, inr, length}
+use Rattle.std.specs.Prelude.{slice_get, Option, Some, None, codes}
 use Rattle.self_terms.specs.declared.nodes.Node.{Node}
 use Rattle.self_terms.specs.declared.nodes.Node.TheVariants as nodes
 use Rattle.self_terms.specs.declared.values.Value.{Value}
@@ -10,23 +10,23 @@ use Rattle.self_terms.specs.declared.values.Datum.TheVariants as datum
 use Rattle.self_terms.specs.declared.bodies.Body.{Body}
 use Rattle.self_terms.specs.declared.bodies.Local.{Local}
 use Rattle.source_model.specs.Names.{number_of}
-use Rattle.source_model.specs.Objects.{Slot, Content, Constant, Assignable, Assignment, Parent, Method, Thing, Plain, Vector, Text}
+use Rattle.source_model.specs.Objects.{Content, Constant, Assignable, Assignment, Parent, Method, Thing, Plain, Vector, Text}
 use Rattle.source_model.specs.State.{Core, Activation, Activity, Running, Answered, Failed, State, Reached}
 use Rattle.source_model.specs.Messages.{body_of, value_of}
 use Rattle.source_model.specs.Sends.{Here}
 use Rattle.source_model.specs.Step.{node_at, step, onward, run}
-use Rattle.source_model.specs.Canon.{Each, ActivityHas, ActivationHas, HasOwnNumbers}
-use Rattle.source_model.specs.Soundness.{body_in, HasBody, Names, IsFit, IsWell, IsActivity, numbers}
+use Rattle.source_model.specs.Canon.{Each, ActivityHas, ActivationHas}
+use Rattle.source_model.specs.Soundness.{body_in, HasBody, Names, IsActivity, numbers}
 use Rattle.source_model.proofs.Kept.{IsWellAfter}
-use Rattle.source_model.specs.Formed.{Takes, HasText, Says, IsGiven, IsSaid, ContentHolds, SlotHolds, ThingHolds, ActivationHolds, ActivityHolds, StateHolds, IsThere, ThingFits, Descend, AreInOrder, HasCore, IsWorld, IsFormed, IsWellFormed}
+use Rattle.source_model.specs.Formed.{Takes, Says, IsGiven, IsSaid, ContentHolds, SlotHolds, ThingHolds, ActivationHolds, ActivityHolds, StateHolds, IsThere, ThingFits, Descend, AreInOrder, HasCore, IsWorld, IsFormed, IsWellFormed}
 use Rattle.source_model.proofs.Having.{each}
-use Rattle.source_model.proofs.Keeping.{set_each, get_each, slice_each, InSome}
+use Rattle.source_model.proofs.Keeping.{set_each, slice_each, InSome}
 use Rattle.source_model.proofs.KeepingNodes.{keeps_numbers, step_kept}
 use Rattle.source_model.proofs.EachStep.{steps_keep}
 use Rattle.source_model.proofs.Holding.{Ground}
 use Rattle.source_model.proofs.HoldingNodes.{NextHolds, NodeHolds, step_holds}
-use Rattle.source_model.proofs.Turning.{Shape, numbers_in, IsAsBefore, as_it_is, TurnedAt, step_turns}
-use Rattle.source_model.proofs.Emptied.{Grown, grows, grown_length, grown_fits}
+use Rattle.source_model.proofs.Turning.{Shape, numbers_in, IsAsBefore, as_it_is, step_turns}
+use Rattle.source_model.proofs.Emptied.{grows, grown_length, grown_fits}
 use Rattle.source_model.proofs.Accepting.{next_accepts, said_of, node_says}
 
 -- Values that are there stay there.
@@ -133,8 +133,7 @@ module _ (home : ℕ → ℕ) (s : State) (formed : IsFormed home s) where
   world_kept : IsWorld t
   world_kept =
       let core : HasCore s = formed.world.0 in
-      let le = more in
-      (
+      let le = more in (
         record {
           nil = subst (λ (c : Core). c.nil < length t.things) (sym before.core) (omega (arith, core.nil, le));
           yes = subst (λ (c : Core). c.yes < length t.things) (sym before.core) (omega (arith, core.yes, le));

@@ -1,6 +1,6 @@
 -- A step makes no value but integers, objects that are there, and the block of a block literal: messages.
-use Rattle.std.proofs.Common.{◌≡◌, ℕ, zero, suc, ◌+◌, ◌<◌, ◌≤◌, ap, refl, arith, Bool, true, false, List, [], ◌∷◌, ◌++◌, length, map, get_or}
-use Rattle.std.specs.Prelude.{◌==◌, nat_lt, nat_le, slice_get, slice_set, find, Option, Some, None, cond, Ok, Err, ℤ}
+use Rattle.std.proofs.Common.{◌≡◌, ℕ, zero, suc, ◌+◌, ◌<◌, ◌≤◌, refl, arith, Bool, true, false, List, [], ◌∷◌, ◌++◌, length, map, get_or}
+use Rattle.std.specs.Prelude.{◌==◌, nat_lt, nat_le, Option, Some, None, cond, Ok, Err}
 use Rattle.std.proofs.lemmas.Bool.{ltb-true}
 use Rattle.self_terms.specs.declared.values.Value.{Value}
 use Rattle.self_terms.specs.declared.values.Value.TheVariants as values
@@ -11,7 +11,7 @@ use Rattle.source_model.specs.Objects.{Object, Slot, Content, Constant, Assignab
 use Rattle.source_model.specs.Lookup.{Found, NotUnderstood, One, Ambiguous, lookup, lookup_value, resend, directed}
 use Rattle.source_model.specs.State.{Core, Activation, Running, Answered, State, silent}
 use Rattle.source_model.specs.Messages.{Met, Missing, Holds, body_of, value_of, slots_of, objects, held, met_in, meets, meets_above, meets_through, kin, block_slots}
-use Rattle.source_model.specs.Sends.{Outcome, then_do, Here, moved, goes_on, answers, beyond_home, enters, entered, begun, entry_cost, Message, callers, with_number, evaluates_in, evaluates, activates, change_thing, sends}
+use Rattle.source_model.specs.Sends.{Outcome, then_do, Here, moved, goes_on, answers, beyond_home, enters, entered, begun, entry_cost, Message, callers, with_number, evaluates_in, evaluates, change_thing, sends}
 use Rattle.source_model.specs.Canon.{Each}
 use Rattle.source_model.specs.Formed.{ContentHolds, SlotHolds, ThingHolds, ActivationHolds, ActivityHolds, StateHolds}
 use Rattle.source_model.proofs.Keeping.{append_each, set_each, get_each, InSome, find_each, either}

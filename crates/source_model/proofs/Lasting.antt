@@ -1,24 +1,22 @@
 -- A step changes no lookup from an object that is there.
-use Rattle.std.proofs.Common.{◌≡◌, ℕ, zero, suc, ◌+◌, ◌<◌, ◌≤◌, ap, sym, subst, refl, ◌∙◌, arith, Bool, true, false, List, [], ◌∷◌, ◌++◌, ◌⊎◌, inl, inr, length, map}
-use Rattle.std.specs.Prelude.{◌==◌, ◌||◌, slice_get, Option, Some, None, option_and_then, flat_map, cond}
+use Rattle.std.proofs.Common.{◌≡◌, ℕ, zero, suc, ◌<◌, ap, sym, subst, refl, ◌∙◌, arith, true, false, List, [], ◌∷◌, ◌++◌, inl, inr, length, map}
+use Rattle.std.specs.Prelude.{◌==◌, Option, Some, None, flat_map, cond}
 use Rattle.std.specs.List.{list_any}
 use Rattle.std.proofs.lemmas.List.{length-append, length-map, map-append}
-use Rattle.self_terms.specs.declared.values.Value.{Value}
 use Rattle.self_terms.specs.declared.values.Value.TheVariants as values
-use Rattle.source_model.specs.Objects.{Object, Slot, Content, Constant, Assignable, Assignment, Parent, Method, Thing, Plain, Vector, Text, slots_at, slot_named, has_name, owns, parents_in, parent_of, IsWhole}
+use Rattle.source_model.specs.Objects.{Object, Content, Constant, Assignable, Assignment, Parent, Method, Thing, Plain, Vector, Text, slots_at, slot_named, owns, parents_in, parent_of, IsWhole}
 use Rattle.source_model.specs.Lookup.{Found, NotUnderstood, One, Ambiguous, Among, IsAnswer, IsHolder, IsHolderFromAny, lookup, lookup_from, resend, directed, parent_named, has_in, parents_of, holders, holders_from_all, found_of}
 use Rattle.source_model.specs.State.{Core, State}
-use Rattle.source_model.specs.Messages.{Met, Missing, Holds, slots_of, objects, held, met_in, meets, meets_above, meets_through, kin}
+use Rattle.source_model.specs.Messages.{Met, Missing, Holds, slots_of, objects, held, met_in, meets, meets_above, meets_through}
 use Rattle.source_model.specs.Step.{step}
 use Rattle.source_model.specs.Canon.{Each}
-use Rattle.source_model.specs.Formed.{SlotHolds, ThingHolds, IsThere, HasCore, IsFormed, IsWellFormed}
+use Rattle.source_model.specs.Formed.{SlotHolds, ThingHolds, IsThere, IsFormed}
 use Rattle.source_model.specs.Lasting.{emptied, without_data, LookupsLast, StepsLast}
 use Rattle.source_model.proofs.Keeping.{slice_each, InSome}
 use Rattle.source_model.proofs.Laws.{below, below_length, in_below, closed, inside, find_parent, send_law, resend_law}
 use Rattle.source_model.proofs.Reach.{levels_same}
 use Rattle.source_model.proofs.Alike.{slot_with, met_with}
 use Rattle.source_model.proofs.Alike as alike
-use Rattle.source_model.proofs.HoldingNodes.{IsNew}
 use Rattle.source_model.proofs.Turning.{IsAsBefore}
 use Rattle.source_model.proofs.Emptied.{bare, bare_thing, Grown, grows, grown_length}
 use Rattle.source_model.proofs.Forming.{before}
@@ -89,8 +87,8 @@ module _ (objs : List Object) (own : Object) (whole : IsWhole objs) where
       let same = slots_more objs own o lt in
       (λ i. cond (list_any (λ v. o == v) visited) [] (cond (owns name (same i)) (o ∷ []) (flat_map (λ p. holders (has_in all name) (parents_of all) n p (o ∷ visited)) (parents_in (same i)))))
       ∙ ap (λ (xs : List ℕ). cond (list_any (λ v. o == v) visited) [] (cond (has_in objs name o) (o ∷ []) xs))
-        (flat_same (λ p. holders (has_in all name) (parents_of all) n p (o ∷ visited)) (λ p. holders (has_in objs name) (parents_of objs) n p (o ∷ visited)) (parents_of objs o)
-        (λ p a. walks name n p (o ∷ visited) (inside objs whole o p a)))
+      (flat_same (λ p. holders (has_in all name) (parents_of all) n p (o ∷ visited)) (λ p. holders (has_in objs name) (parents_of objs) n p (o ∷ visited)) (parents_of objs o)
+      (λ p a. walks name n p (o ∷ visited) (inside objs whole o p a)))
 
   levels : (name o : ℕ) → o < length objs → holders (has_in objs name) (parents_of objs) (length all) o [] ≡ holders (has_in objs name) (parents_of objs) (length objs) o []
   levels name o lt =
@@ -108,7 +106,7 @@ module _ (objs : List Object) (own : Object) (whole : IsWhole objs) where
   resend_same name o lt =
       ap (λ (slots : Object). found_of (holders_from_all (has_in all name) (parents_of all) (length all) (parents_in slots))) (slots_more objs own o lt)
       ∙ ap found_of (flat_same (λ p. holders (has_in all name) (parents_of all) (length all) p []) (λ p. holders (has_in objs name) (parents_of objs) (length objs) p []) (parents_of objs o)
-        (λ p a. found_same name p (inside objs whole o p a)))
+      (λ p a. found_same name p (inside objs whole o p a)))
 
   from_same : (name : ℕ) (m : Option ℕ) → ((to : ℕ) → m ≡ Some to → to < length objs) → lookup_from all name m ≡ lookup_from objs name m
   from_same name None h = refl
@@ -193,21 +191,21 @@ module _ (home : ℕ → ℕ) (s : State) (formed : IsFormed home s) where
   sent_by : Grown s.things t.things → (name o : ℕ) → o < length s.things → without_data (met_in (objects t) name (lookup (objects t) name o)) ≡ without_data (met_in (objects s) name (lookup (objects s) name o))
   sent_by (inl e) name o lt = sent_bare (objects t) name o ∙ ap (λ (objs : List Object). met_in objs name (lookup objs name o)) (same_objects e) ∙ sym (sent_bare (objects s) name o)
   sent_by (inr h) name o lt = ap without_data (
-    ap (λ (objs : List Object). met_in objs name (lookup objs name o)) (more_objects h.0 h.2)
-    ∙ sent_more (objects s) (slots_of s.core h.0) is_whole name o (omega (arith, lt, count)))
+      ap (λ (objs : List Object). met_in objs name (lookup objs name o)) (more_objects h.0 h.2)
+      ∙ sent_more (objects s) (slots_of s.core h.0) is_whole name o (omega (arith, lt, count)))
 
   above_by : Grown s.things t.things → (name o : ℕ) → o < length s.things → without_data (met_in (objects t) name (resend (objects t) name o)) ≡ without_data (met_in (objects s) name (resend (objects s) name o))
   above_by (inl e) name o lt = above_bare (objects t) name o ∙ ap (λ (objs : List Object). met_in objs name (resend objs name o)) (same_objects e) ∙ sym (above_bare (objects s) name o)
   above_by (inr h) name o lt = ap without_data (
-    ap (λ (objs : List Object). met_in objs name (resend objs name o)) (more_objects h.0 h.2)
-    ∙ above_more (objects s) (slots_of s.core h.0) is_whole name o (omega (arith, lt, count)))
+      ap (λ (objs : List Object). met_in objs name (resend objs name o)) (more_objects h.0 h.2)
+      ∙ above_more (objects s) (slots_of s.core h.0) is_whole name o (omega (arith, lt, count)))
 
   through_by : Grown s.things t.things → (parent name o : ℕ) → o < length s.things
       → without_data (met_in (objects t) name (directed (objects t) parent name o)) ≡ without_data (met_in (objects s) name (directed (objects s) parent name o))
   through_by (inl e) parent name o lt = through_bare (objects t) parent name o ∙ ap (λ (objs : List Object). met_in objs name (directed objs parent name o)) (same_objects e) ∙ sym (through_bare (objects s) parent name o)
   through_by (inr h) parent name o lt = ap without_data (
-    ap (λ (objs : List Object). met_in objs name (directed objs parent name o)) (more_objects h.0 h.2)
-    ∙ through_more (objects s) (slots_of s.core h.0) is_whole parent name o (omega (arith, lt, count)))
+      ap (λ (objs : List Object). met_in objs name (directed objs parent name o)) (more_objects h.0 h.2)
+      ∙ through_more (objects s) (slots_of s.core h.0) is_whole parent name o (omega (arith, lt, count)))
 
   abbrev grown : Grown s.things t.things
   grown = grows s.things t.things is_before.things

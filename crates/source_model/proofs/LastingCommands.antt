@@ -1,5 +1,5 @@
 -- Edits alone change lookups.
-use Rattle.std.proofs.Common.{◌≡◌, ℕ, zero, suc, ◌+◌, ◌-◌, ◌<◌, ◌≤◌, ap, sym, subst, refl, ◌∙◌, arith, Bool, true, false, List, [], ◌∷◌, length, map}
+use Rattle.std.proofs.Common.{◌≡◌, ℕ, zero, suc, ◌+◌, ◌-◌, ◌<◌, ap, sym, subst, refl, ◌∙◌, arith, Bool, true, false, List, [], ◌∷◌, length, map}
 use Rattle.std.specs.Prelude.{nat_lt, nat_le, slice_get, Option, Some, None, cond, Ok, Err, codes}
 use Rattle.self_terms.specs.declared.values.Value.TheVariants as values
 use Rattle.self_terms.specs.declared.values.BodyId.{BodyId}
@@ -9,7 +9,7 @@ use Rattle.source_model.specs.Objects.{Constant, Assignable, Assignment, Parent,
 use Rattle.source_model.specs.State.{Activation, Activity, Running, Answered, Failed, State, Reached, silent}
 use Rattle.source_model.specs.Messages.{Met, Missing, Holds, body_of, slots_of, objects, met_in, meets, meets_above, meets_through}
 use Rattle.source_model.specs.Lookup.{lookup, resend, directed}
-use Rattle.source_model.specs.Sends.{then_do, begun, entered, entry_cost, enters}
+use Rattle.source_model.specs.Sends.{then_do, begun, entered, entry_cost}
 use Rattle.source_model.specs.Step.{onward, run}
 use Rattle.source_model.specs.Script.{Command, Spawn, Switch, Run, Continue, Step, Interrupt, Finish, Stack, Edit, Units, Machine, Advisor, refused, spawned, with_activity, spawn_met, spawn, switch, over, with_run_line, lacks, finish, continue_to, shows, advisor, command}
 use Rattle.source_model.specs.Formed.{IsWellFormed}

@@ -1,5 +1,5 @@
 -- More bodies behind those that are there: what is said of the old ones stays, and those of a text are what the text says.
-use Rattle.std.proofs.Common.{◌≡◌, ℕ, zero, suc, ◌+◌, ◌-◌, ◌<◌, ◌≤◌, ap, sym, subst, refl, ◌∙◌, arith, Bool, true, false, List, [], ◌∷◌, ◌++◌, ◌⊎◌, inl, inr, length, map, get_or}
+use Rattle.std.proofs.Common.{◌≡◌, ℕ, zero, suc, ◌+◌, ◌-◌, ◌<◌, ◌≤◌, ap, sym, subst, refl, ◌∙◌, arith, Bool, true, false, List, [], ◌∷◌, ◌++◌, length, map, get_or}
 use Rattle.std.specs.Prelude.{nat_le, slice_get, Option, Some, None, unwrap_or, option_map, option_and_then}
 use Rattle.std.proofs.lemmas.Bool.{leb-true, leb-false}
 use Rattle.std.proofs.lemmas.List.{length-append, length-map}
@@ -13,9 +13,8 @@ use Rattle.source_model.specs.State.{Activation, Activity, Running, Answered, Fa
 use Rattle.source_model.specs.Step.{node_at}
 use Rattle.source_model.specs.Edits.{node_in}
 use Rattle.source_model.specs.Canon.{Each}
-use Rattle.source_model.specs.Soundness.{body_in, HasBody, room, around, HasLocal, Names, HasOuter, IsFit, HasMaker, IsLive, IsReady, Waits, AreCallers, IsActivity}
+use Rattle.source_model.specs.Soundness.{body_in, HasBody, room, around, HasLocal, Names, HasOuter, IsFit, HasMaker, IsLive, Waits, AreCallers, IsActivity}
 use Rattle.source_model.specs.Formed.{Takes, Says, IsGiven, IsSaid, ContentFits}
-use Rattle.source_model.proofs.Having.{each}
 
 abbrev pub no_body : Body
 no_body = record { name = None; outer = None; arguments = []; locals = []; nodes = []; places = [] }

@@ -1,6 +1,6 @@
 -- That each name stands once among slots, said of two slots at a time.
-use Rattle.std.proofs.Common.{◌≡◌, ℕ, zero, suc, ap, sym, subst, refl, ◌∙◌, Bool, true, false, List, [], ◌∷◌, take}
-use Rattle.std.specs.Prelude.{◌==◌, slice_get, Option, Some, None, cond}
+use Rattle.std.proofs.Common.{◌≡◌, ℕ, zero, suc, ap, sym, subst, refl, ◌∙◌, Bool, true, false, [], ◌∷◌, take}
+use Rattle.std.specs.Prelude.{slice_get, Option, Some, None, cond}
 use Rattle.std.proofs.lemmas.Bool.{eq-eqb, ne_eqb}
 use Rattle.source_model.specs.Objects.{Object, Slot, slot_named, has_name, AreNamedOnce}
 use Rattle.source_model.specs.Canon.{Each}

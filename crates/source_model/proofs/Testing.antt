@@ -1,7 +1,7 @@
 -- A state that passes the test may begin, and a command that passes it fits.
-use Rattle.std.proofs.Common.{◌≡◌, ℕ, zero, suc, ◌+◌, ◌-◌, ◌<◌, ◌≤◌, ap, sym, subst, refl, ◌∙◌, arith, Bool, true, false, List, [], ◌∷◌, ◌++◌, ◌⊎◌, inl, inr, length}
+use Rattle.std.proofs.Common.{◌≡◌, ℕ, zero, suc, ◌+◌, ◌-◌, ◌<◌, ap, sym, subst, refl, ◌∙◌, arith, Bool, true, false, List, [], ◌∷◌, ◌++◌, inl, inr, length}
 use Rattle.std.specs.Prelude.{◌==◌, ◌&&◌, ◌||◌, nat_lt, nat_le, not, is_some, Option, Some, None, cond, codes}
-use Rattle.std.proofs.lemmas.Bool.{eqb-true, ltb-true, leb-true, cases_eq, eq-eqb, ne_eqb}
+use Rattle.std.proofs.lemmas.Bool.{eqb-true, ltb-true, leb-true, cases_eq, eq-eqb}
 use Rattle.self_terms.specs.declared.nodes.Node.{Node}
 use Rattle.self_terms.specs.declared.nodes.Node.TheVariants as nodes
 use Rattle.self_terms.specs.declared.values.Value.{Value}
@@ -21,7 +21,7 @@ use Rattle.source_model.specs.Soundness.{body_in, room, around, HasBody, HasOute
 use Rattle.source_model.specs.Formed.{arity, Takes, HasText, Says, IsGiven, IsSaid, ContentHolds, SlotHolds, ThingHolds, ContentFits, SlotFits, Follows, AreTied, ThingFits, IsPlain, HasCore, CanBegin}
 use Rattle.source_model.specs.Testing.{each_passes, below_pass, takes_in, takes_test, body_test, outer_test, local_test, is_number, names_test, node_test, fit_test, says_test, given_test, said_test, plain_test, content_test, assigns, follows_test, slots_test, thing_test, core_test, none_yet, can_begin, initial_test, text_test, command_fits}
 use Rattle.source_model.specs.Edits.{Initial, Number, String, Path, Nothing, LocalText, BodyText, SlotText}
-use Rattle.source_model.specs.Script.{Command, Spawn, Switch, Run, Continue, Step, Interrupt, Finish, Stack, Edit, Units, Machine, Advisor, EditText, Read, Unread}
+use Rattle.source_model.specs.Script.{Command, Spawn, Switch, Run, Continue, Step, Interrupt, Finish, Stack, Edit, Units, Machine, Advisor, Read, Unread}
 use Rattle.source_model.specs.Told.{told, InitialFits, IsSlotText, CommandFits}
 use Rattle.source_model.proofs.Naming.{same_text}
 use Rattle.source_model.proofs.Once.{AreApart, from_apart}

@@ -1,6 +1,6 @@
 -- What a step does to a state: some of the youngest activations of the current activity go, or a new one comes; one thing is
 -- made, or its data change; names, bodies and the core stay.
-use Rattle.std.proofs.Common.{◌≡◌, ℕ, zero, suc, ◌+◌, ap, sym, subst, refl, ◌∙◌, arith, Bool, true, false, List, [], ◌∷◌, ◌++◌, ◌⊎◌, inl, inr, length, map, drop, get_or}
+use Rattle.std.proofs.Common.{◌≡◌, ℕ, ◌+◌, ap, sym, subst, refl, ◌∙◌, arith, Bool, true, false, List, [], ◌∷◌, ◌++◌, ◌⊎◌, inl, inr, length, map, drop, get_or}
 use Rattle.std.specs.Prelude.{◌==◌, nat_lt, nat_le, slice_get, slice_set, Option, Some, None, option_and_then, cond, Ok, Err, codes}
 use Rattle.self_terms.specs.declared.nodes.Node.{Node}
 use Rattle.self_terms.specs.declared.nodes.Node.TheVariants as nodes
@@ -11,17 +11,17 @@ use Rattle.self_terms.specs.declared.bodies.Local.{Local}
 use Rattle.self_terms.specs.declared.errors.ErrorName.{ErrorName}
 use Rattle.self_terms.specs.declared.errors.ErrorName.TheVariants as errors
 use Rattle.source_model.specs.Names.{number_of, text_named}
-use Rattle.source_model.specs.Objects.{Object, Slot, Content, Constant, Assignable, Assignment, Parent, Method, Thing, Plain, Vector, Text, with_slots, stored, changed_at}
+use Rattle.source_model.specs.Objects.{Object, Content, Constant, Assignable, Assignment, Parent, Method, Thing, Plain, Vector, Text, with_slots, stored, changed_at}
 use Rattle.source_model.specs.State.{Activation, Activity, Running, Answered, Failed, State, silent}
 use Rattle.source_model.specs.Messages.{Met, Missing, Holds, body_of, meets, meets_above, meets_through}
-use Rattle.source_model.specs.Sends.{Outcome, then_do, Here, moved, goes_on, answers, beyond_home, entry_cost, begun, entered, enters, Message, callers, with_number, evaluates_in, evaluates, activates, change_thing, sends}
+use Rattle.source_model.specs.Sends.{Outcome, then_do, Here, moved, goes_on, answers, beyond_home, entry_cost, begun, entered, enters, Message, callers, with_number, evaluates_in, evaluates, change_thing, sends}
 use Rattle.source_model.specs.Primitives.{Row, Effect, Gives, Makes, Puts, Prints, Fails, table, row_of, apply_row, error_string, row_string}
-use Rattle.source_model.specs.Step.{value_at, stated, implied, owner, local_in, set_in, with_local, over_handler, called, handler_of, fixed_string, fails, with_thing, performs, primitive, done}
+use Rattle.source_model.specs.Step.{value_at, stated, implied, owner, local_in, set_in, with_local, over_handler, called, handler_of, fixed_string, fails, with_thing, performs, done}
 use Rattle.source_model.specs.Step.{node_at, place_of, settled, advanced, step}
-use Rattle.source_model.specs.State.{Core, Reached}
+use Rattle.source_model.specs.State.{Reached}
 use Rattle.source_model.specs.Soundness.{numbers}
 use Rattle.source_model.specs.Canon.{Each}
-use Rattle.source_model.specs.Formed.{SlotHolds, ThingHolds, ActivationHolds, ActivityHolds, StateHolds, HasCore}
+use Rattle.source_model.specs.Formed.{SlotHolds, ThingHolds, ActivationHolds, ActivityHolds, HasCore}
 use Rattle.source_model.proofs.Keeping.{either}
 use Rattle.source_model.proofs.Holding.{Ground}
 use Rattle.source_model.proofs.HoldingNodes.{IsNew, IsPut, EffectHolds, apply_row_holds}

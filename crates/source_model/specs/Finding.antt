@@ -2,7 +2,7 @@
 use Rattle.std.specs.Prelude.{◌≡◌, ℕ, suc, List, ◌++◌, slice_get, slice_set, ◌∷◌, Option, Some, None, codes}
 use Rattle.self_terms.specs.declared.values.Value.{Value}
 use Rattle.source_model.specs.Names.{text_named}
-use Rattle.source_model.specs.Objects.{Object, Slot, Assignable, Assignment, IsWhole, slots_at, slot_named, stored}
+use Rattle.source_model.specs.Objects.{Object, Assignable, Assignment, IsWhole, slots_at, slot_named, stored}
 use Rattle.source_model.specs.State.{Activation, Running, State}
 use Rattle.source_model.specs.Messages.{objects}
 use Rattle.source_model.specs.Sends.{beyond_home}

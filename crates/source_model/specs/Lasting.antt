@@ -1,5 +1,5 @@
 -- What a step leaves as it is: what lookups find.
-use Rattle.std.specs.Prelude.{◌≡◌, ℕ, ◌<◌, ◌≤◌, nat_lt, Bool, true, false, List, [], ◌∷◌, length, slice_get, Option, Some, None, ℤ, pos}
+use Rattle.std.specs.Prelude.{◌≡◌, ℕ, ◌<◌, ◌≤◌, nat_lt, Bool, true, false, List, ◌∷◌, length, slice_get, Option, Some, pos}
 use Rattle.self_terms.specs.declared.values.Value.TheVariants as values
 use Rattle.source_model.specs.Objects.{Content, Constant, Assignable, Assignment, Parent, Method}
 use Rattle.source_model.specs.State.{Activation, Activity, Running, State, Reached}

@@ -1,5 +1,5 @@
 -- Tests by computation: of a state with which a session may begin, and of a command that keeps it well formed.
-use Rattle.std.specs.Prelude.{ℕ, zero, suc, ◌+◌, ◌-◌, ◌&&◌, ◌||◌, ◌==◌, nat_lt, nat_le, Bool, true, false, not, is_some, List, [], ◌∷◌, ◌++◌, length, take, Option, Some, None, codes}
+use Rattle.std.specs.Prelude.{ℕ, zero, suc, ◌+◌, ◌&&◌, ◌||◌, ◌==◌, nat_lt, nat_le, Bool, true, false, not, is_some, List, [], ◌∷◌, ◌++◌, length, Option, Some, None, codes}
 use Rattle.self_terms.specs.declared.nodes.Node.{Node}
 use Rattle.self_terms.specs.declared.nodes.Node.TheVariants as nodes
 use Rattle.self_terms.specs.declared.values.Value.{Value}
@@ -16,7 +16,7 @@ use Rattle.source_model.specs.State.{State, Activity}
 use Rattle.source_model.specs.Step.{node_at}
 use Rattle.source_model.specs.Soundness.{body_in, room, around}
 use Rattle.source_model.specs.Edits.{Initial, String, LocalText, BodyText, SlotText}
-use Rattle.source_model.specs.Script.{Command, Spawn, Edit, EditText, Read}
+use Rattle.source_model.specs.Script.{Command, Spawn, Edit, Read}
 use Rattle.source_model.specs.Formed.{arity}
 use Rattle.source_model.specs.Told.{told}
 

@@ -1,12 +1,12 @@
 -- What is told by a script: when a command keeps a state well formed.
-use Rattle.std.specs.Prelude.{◌≡◌, ℕ, ◌<◌, List, [], ◌∷◌, length, map}
+use Rattle.std.specs.Prelude.{◌≡◌, ℕ, ◌<◌, List, length, map}
 use Rattle.self_terms.specs.declared.values.Datum.TheVariants as datum
 use Rattle.self_terms.specs.declared.bodies.Body.{Body}
 use Rattle.self_terms.specs.declared.bodies.Local.{Local}
 use Rattle.source_model.specs.Objects.{Method}
-use Rattle.source_model.specs.State.{State, Reached}
-use Rattle.source_model.specs.Edits.{Initial, Number, String, Path, Nothing, LocalText, BodyText, SlotText}
-use Rattle.source_model.specs.Script.{Command, Spawn, Edit, EditText, Read, Unread, command, commands}
+use Rattle.source_model.specs.State.{Reached}
+use Rattle.source_model.specs.Edits.{String, LocalText, BodyText, SlotText}
+use Rattle.source_model.specs.Script.{Command, Spawn, Edit, Read, command, commands}
 use Rattle.source_model.specs.Canon.{Each}
 use Rattle.source_model.specs.Soundness.{HasBody, IsFit}
 use Rattle.source_model.specs.Formed.{arity, IsSaid, ContentFits, IsWellFormed}
