@@ -17,3 +17,4 @@ pub mod Weights
 pub mod Spans
 pub mod DataIntegers
 pub mod SmallData
+mod ToldLemmas

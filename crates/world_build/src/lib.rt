@@ -17,12 +17,11 @@ mod members;
 mod nodes;
 mod refusals;
 mod slots;
+mod telling;
 mod things;
 mod values;
 mod worlds;
 
 pub use cores::CoreName;
 pub use refusals::BuildRefusal;
-pub use slots::{Content, Slot, Slots};
-pub use things::{Bytes, Thing, Things};
 pub use worlds::{World, load};

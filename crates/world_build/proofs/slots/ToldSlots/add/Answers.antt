@@ -1,7 +1,7 @@
 use Rattle.std.proofs.Common.{◌∙◌, sym, nat_eq}
 use Rattle.indexmap.proofs.CallerLemmas.{insert_entry-new}
 use Rattle.world_build.proofs.SlotLemmas.{slot_there, slot_missing, slot_added}
-use Rattle.world_build.proofs.slots.Slots.add.Goals as goal
+use Rattle.world_build.proofs.slots.ToldSlots.add.Goals as goal
 
 pub returns-then-contains_key : goal.returns-then-contains_key
 returns-then-contains_key c = slot_there c.args.self.now c.self.inside.slots.entries c.args.slot c.self.view_is (sym c.contains_key.ensures ∙ c.if-contains_key.true)
