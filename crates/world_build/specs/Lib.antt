@@ -9,3 +9,4 @@ pub mod Steps
 pub mod Telling
 pub mod Worlds
 pub mod Kinds
+pub mod Wholeness

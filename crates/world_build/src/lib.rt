@@ -20,8 +20,10 @@ mod slots;
 mod telling;
 mod things;
 mod values;
+mod wholeness;
 mod worlds;
 
 pub use cores::CoreName;
 pub use refusals::BuildRefusal;
+pub use wholeness::worlds_are_whole;
 pub use worlds::{World, load};
