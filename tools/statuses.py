@@ -30,7 +30,7 @@ FILES = {
     "long.self": " " * 1048577,
 }
 
-# Words, what standard input holds (None: a folder), whether the output is full, what is written, and the status.
+# Words (a byte each character: one is no UTF-8), what standard input holds (None: a folder), whether the output is full, what is written, and the status.
 CASES = [
     ("run add.self", SCRIPT, False, "activity 1\ndone 7 at 4\n", 0),
     ("run add.self", "spawn main\nrun 2", False, "activity 1\nstop at 2 line 10:12\n", 0),
@@ -38,6 +38,7 @@ CASES = [
     ("", "", False, USAGE, 1),
     ("run", SCRIPT, False, USAGE, 1),
     ("run -add.self", SCRIPT, False, USAGE, 1),
+    ("run \xff", SCRIPT, False, USAGE, 1),
     ("run add.self add.self", SCRIPT, False, USAGE, 1),
     ("drill 4000", "", False, "not built\n", 1),
     ("drill 4001", "", False, USAGE, 1),
@@ -63,7 +64,7 @@ def run(program, words, given, is_full, folder):
     source = os.open(folder / ("folder" if given is None else "script"), os.O_RDONLY)
     with open("/dev/full" if is_full else folder / "out", "wb") as sink:
         ran = subprocess.run(
-            [program, *words.split()], cwd=folder, stdin=source, stdout=sink, stderr=subprocess.PIPE, timeout=60
+            [program, *words.encode("latin-1").split()], cwd=folder, stdin=source, stdout=sink, stderr=subprocess.PIPE, timeout=60
         )
     os.close(source)
     return "" if is_full else (folder / "out").read_text(), ran.stderr.decode(errors="replace"), ran.returncode
@@ -86,7 +87,7 @@ def main():
                 *wrote, status = run(program, words, given, is_full, folder)
                 if [*wrote, status] != [wanted[0], "", wanted[1]]:
                     failed += 1
-                    print(f"{program.name} {words}: {wrote!r} and status {status}, and not {wanted}")
+                    print(f"{program.name} {words!r}: {wrote!r} and status {status}, and not {wanted}")
     count = len(CASES) * len(programs)
     print(f"statuses: {count - failed} passed, {failed} failed")
     return 1 if failed else 0
