@@ -28,7 +28,7 @@ abbrev pub arity : List ℕ → ℕ
 arity [] = 0
 arity (c ∷ cs) = if is_letter c then count_by (λ x. x == 58) (c ∷ cs) else 1
 
--- a number of a name is that of a text, and a message of that name takes so many arguments
+-- the name of a number has a text, and a message of that name takes so many arguments
 pub record Takes (names : List (List ℕ)) (n args : ℕ) : Type 0 where
   pub text : List ℕ
   pub given : text_of names n ≡ Some text
@@ -55,13 +55,15 @@ IsGiven things (datum.Integer i) = Unit {0}
 IsGiven things (datum.Object o) = o < things
 IsGiven things datum.Nil = Unit {0}
 
+-- what a body says is there, and each node has its place
 pub record IsSaid (names : List (List ℕ)) (things : ℕ) (b : Body) : Type 0 where
   pub said : Each (Says names things) b.nodes
   pub placed : length b.places ≡ length b.nodes
   pub initials : Each (λ (x : Local). IsGiven things x.initial) b.locals
 
--- Values.
+-- Values, of which something is true.
 
+-- so it is of what a slot holds; an object is held by its number as a parent
 abbrev pub ContentHolds : (Value → Type 0) → Content → Type 0
 ContentHolds V (Constant v) = V v
 ContentHolds V (Assignable v) = V v
@@ -88,7 +90,7 @@ ActivityHolds V (Running all) = Each (ActivationHolds V) all
 ActivityHolds V (Answered v) = Unit {0}
 ActivityHolds V (Failed e p) = Unit {0}
 
--- so is each value in a state, in its things and in its activations
+-- so it is of each value in a state, in its things and in its activations
 pub record StateHolds (V : Value → Type 0) (s : State) : Type 0 where
   pub things : Each (ThingHolds V) s.things
   pub activities : Each (ActivityHolds V) s.activities
@@ -110,7 +112,7 @@ ContentFits names bodies n _ = Unit {0}
 abbrev pub SlotFits : List (List ℕ) → List Body → Slot → Type 0
 SlotFits names bodies x = ContentFits names bodies x.name x.content
 
--- behind this slot, if any, an assignment slot may stand: behind the assignable slot whose name it has, with a colon
+-- an assignment slot is never the first; the slot in front of it is assignable, and has its name without the colon
 abbrev pub Follows : List (List ℕ) → Option Slot → Slot → Type 0
 Follows names None x = x.content ≡ Assignment → ⊥
 Follows names (Some front) x = x.content ≡ Assignment → (is_assignable front.content ≡ true) × (text_named names x.name ≡ text_named names front.name ++ codes ":")
