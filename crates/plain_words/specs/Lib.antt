@@ -1,0 +1,5 @@
+-- The words of plain code.
+pub mod Places
+pub mod Code
+pub mod Going
+pub mod Moves

@@ -1,0 +1,4 @@
+// The words of plain code.
+#![tactic(auto)]
+
+mod laws;
