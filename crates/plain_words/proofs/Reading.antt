@@ -7,7 +7,7 @@ use Rattle.sparc_store.specs.Words.{Words, word_at, with_word, HasWord, HasFrame
 use Rattle.sparc_machine.specs.State.{MachineState}
 use Rattle.sparc_machine.specs.Alu.{add}
 use Rattle.sparc_machine.specs.Table.{effect}
-use Rattle.plain_words.specs.Places.{pending_offset, local_offset}
+use Rattle.frame_walk.specs.Places.{pending_offset, local_offset}
 use Rattle.plain_words.specs.Code.{load, store, move, pend, take, count, walk, reach, base_of, offset_of, context_offset, read_code, store_code}
 use Rattle.plain_words.specs.Moves.{is_scratch, IsReady, Does, pended, IsContext, around, AreAround, local_address, HasLocal, assigned}
 use Rattle.plain_words.proofs.Basics.{other_register}

@@ -13,7 +13,7 @@ use Rattle.sparc_machine.specs.State.{MachineState, with_reg, gone_back, in_olde
 use Rattle.sparc_machine.specs.Alu.{add, sub}
 use Rattle.sparc_machine.specs.Table.{effect}
 use Rattle.plain_words.specs.Going.{Goes, At, Stands, StandsAt, IsCodeFrom}
-use Rattle.plain_words.specs.Places.{pending_offset}
+use Rattle.frame_walk.specs.Places.{pending_offset}
 use Rattle.plain_words.specs.Code.{poll, take, count, ended_context, return_code}
 use Rattle.plain_words.specs.Moves.{IsReady, Ends, Returned, CanReturn, HasContext, IsContext, unmarked}
 use Rattle.plain_words.proofs.Basics.{goes_then, goes_on, goes_none, on, stepped, at_front, at_behind, stands_as, other_register, unwrapped}

@@ -11,7 +11,7 @@ use Rattle.sparc_machine.specs.State.{MachineState, with_reg}
 use Rattle.sparc_machine.specs.Alu.{add}
 use Rattle.sparc_machine.specs.Table.{effect}
 use Rattle.plain_words.specs.Going.{Goes, IsTrap, At, Stands, StandsAt, IsCodeFrom}
-use Rattle.plain_words.specs.Places.{pending_offset}
+use Rattle.frame_walk.specs.Places.{pending_offset}
 use Rattle.plain_words.specs.Code.{poll, take, move, arguments_code, send_code, implied_code, non_local_code, primitive_code, count, pend}
 use Rattle.plain_words.specs.Moves.{is_scratch, IsReady, Moved, Asks, AreArguments}
 use Rattle.plain_words.proofs.Basics.{goes_then, at_trap, at_front, at_behind, stands_as, other_register, goes_none}

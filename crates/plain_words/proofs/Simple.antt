@@ -3,7 +3,7 @@ use Rattle.std.proofs.Common.{◌≡◌, ℕ, suc, ◌+◌, ◌*◌, ◌/◌, �
 use Rattle.std.specs.Prelude.{bit_or, List, [], ◌∷◌, ◌++◌, length}
 use Rattle.sparc_store.specs.Words.{Words, with_word, HasFrame}
 use Rattle.sparc_machine.specs.State.{MachineState}
-use Rattle.plain_words.specs.Places.{pending_offset}
+use Rattle.frame_walk.specs.Places.{pending_offset}
 use Rattle.plain_words.specs.Code.{constant_code, self_code, drop_code}
 use Rattle.plain_words.specs.Moves.{IsReady, Does, pended}
 use Rattle.plain_words.proofs.Placing.{placed, two_parts}

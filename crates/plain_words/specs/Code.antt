@@ -7,7 +7,7 @@ use Rattle.sparc_insn.specs.declared.insn.Insn.{Insn}
 use Rattle.sparc_insn.specs.declared.insn.Insn.TheVariants.{Sethi, Branch, Three, Trap}
 use Rattle.sparc_insn.specs.declared.insn.Operand.TheVariants.{Reg, Imm}
 use Rattle.sparc_insn.specs.declared.insn.Op3.TheVariants as ops
-use Rattle.plain_words.specs.Places.{local_offset, pending_offset}
+use Rattle.frame_walk.specs.Places.{local_offset, pending_offset}
 
 -- SPARC's own words: a load from and a store to so many bytes from an address on, a move, a sum with a number, no operation
 abbrev pub load : ℕ → ℕ → ℕ → Insn

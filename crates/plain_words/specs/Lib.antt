@@ -1,5 +1,4 @@
 -- The words of plain code.
-pub mod Places
 pub mod Code
 pub mod Going
 pub mod Moves

@@ -6,7 +6,7 @@ use Rattle.sparc_store.specs.Windows.{IsPlace, frame_before, but_first}
 use Rattle.sparc_machine.specs.State.{MachineState}
 use Rattle.sparc_machine.specs.Alu.{add, sub}
 use Rattle.plain_words.specs.Going.{Goes, IsTrap, At, StandsAt, IsCodeFrom}
-use Rattle.plain_words.specs.Places.{pending_offset}
+use Rattle.frame_walk.specs.Places.{pending_offset}
 use Rattle.plain_words.specs.Code.{poll, base_of, offset_of}
 
 -- %g1, %g2, %g5, %g7 and the outs but %sp may change between polls; all else of a frame and of the activity's counts stays. Register 0

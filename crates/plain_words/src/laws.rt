@@ -2,7 +2,7 @@
 ghost use Rattle.std.specs.Prelude.{◌<◌, ◌≤◌, ℕ, ◌+◌, ◌*◌, Bool};
 ghost use Rattle.sparc_store.specs.Words.{word_at};
 ghost use Rattle.sparc_machine.specs.State.{MachineState};
-ghost use Rattle.plain_words.specs.Places.{pending_offset};
+ghost use Rattle.frame_walk.specs.Places.{pending_offset};
 ghost use Rattle.plain_words.specs.Code.{constant_code, self_code, drop_code, read_code, store_code, send_code, implied_code, non_local_code, return_code};
 ghost use Rattle.plain_words.specs.Moves.{IsReady, Does, pended, HasLocal, local_address, assigned, Asks, Ends, CanReturn, HasContext, unmarked};
 

@@ -1,0 +1,3 @@
+-- Frames of a stack, and the activations that they show.
+pub mod Places
+pub mod Walk
