@@ -6,3 +6,4 @@ pub mod Simple
 pub mod Reading
 pub mod Sending
 pub mod Returning
+pub mod Prologue

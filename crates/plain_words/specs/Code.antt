@@ -7,7 +7,7 @@ use Rattle.sparc_insn.specs.declared.insn.Insn.{Insn}
 use Rattle.sparc_insn.specs.declared.insn.Insn.TheVariants.{Sethi, Branch, Three, Trap}
 use Rattle.sparc_insn.specs.declared.insn.Operand.TheVariants.{Reg, Imm}
 use Rattle.sparc_insn.specs.declared.insn.Op3.TheVariants as ops
-use Rattle.frame_walk.specs.Places.{local_offset, pending_offset}
+use Rattle.frame_walk.specs.Places.{holder_offset, local_offset, pending_offset}
 
 -- SPARC's own words: a load from and a store to so many bytes from an address on, a move, a sum with a number, no operation
 abbrev pub load : ℕ → ℕ → ℕ → Insn
@@ -120,3 +120,27 @@ return_code owns locals k =
 -- a return from the home method, by a service
 abbrev pub non_local_code : ℕ → ℕ → List Insn
 non_local_code locals k = take 8 locals k ∷ Trap 4 ∷ []
+
+-- Entering. A method is entered with the receiver in %o0, arguments from %o1 on, the return address in %o7, and in %g5 the method holder's
+-- word, or 0 where that is the receiver. It makes its frame of so many bytes below the caller's, keeps the holder, the arguments and the
+-- initial contents of its other locals, and counts the activation and the step.
+abbrev pub frame_code : ℕ → List Insn
+frame_code bytes = Three ops.Save 14 14 (Imm (negsuc (bytes - 1))) ∷ []
+
+abbrev pub holder_code : List Insn
+holder_code = Three ops.SubCc 0 5 (Imm (pos 0)) ∷ Branch true 1 (pos 2) ∷ move 5 24 ∷ []
+
+abbrev pub argument_stores : ℕ → ℕ → ℕ → List Insn
+argument_stores register slot zero = []
+argument_stores register slot (suc n) = store register 14 (local_offset slot) ∷ argument_stores (register + 1) (slot + 1) n
+
+abbrev pub initial_stores : ℕ → List ℕ → List Insn
+initial_stores slot [] = []
+initial_stores slot (w ∷ ws) = set_word 1 w ++ (store 1 14 (local_offset slot) ∷ initial_stores (slot + 1) ws)
+
+abbrev pub kept_code : ℕ → List ℕ → List Insn
+kept_code arguments initial =
+    (store 5 14 holder_offset ∷ move 16 0 ∷ move 17 0 ∷ argument_stores 25 0 arguments) ++ (initial_stores arguments initial ++ (plus 4 1 ∷ count ∷ []))
+
+abbrev pub method_code : ℕ → ℕ → List ℕ → List Insn
+method_code bytes arguments initial = frame_code bytes ++ (holder_code ++ kept_code arguments initial)

@@ -1,13 +1,13 @@
 -- What the words of a node do, wherever they stand.
 use Rattle.std.specs.Prelude.{◌≡◌, ℕ, zero, suc, ◌+◌, ◌*◌, ◌%◌, ◌^◌, ◌<◌, ◌≤◌, Bool, true, false, not, nat_eq, nat_lt, nat_le, ◌||◌, ◌&&◌, if◌then◌else◌, List, [], ◌∷◌, ◌++◌, length}
 use Rattle.sparc_insn.specs.declared.insn.Insn.{Insn}
-use Rattle.sparc_store.specs.Words.{Words, word_at, with_word, HasFrame}
-use Rattle.sparc_store.specs.Windows.{IsPlace, frame_before, but_first}
-use Rattle.sparc_machine.specs.State.{MachineState}
+use Rattle.sparc_store.specs.Words.{Words, word_at, with_word, HasFrame, IsWithin}
+use Rattle.sparc_store.specs.Windows.{IsPlace, frame_before, but_first, kept, with_room, but_spilled, CanSave}
+use Rattle.sparc_machine.specs.State.{MachineState, stack_of}
 use Rattle.sparc_machine.specs.Alu.{add, sub}
 use Rattle.plain_words.specs.Going.{Goes, IsTrap, At, StandsAt, IsCodeFrom}
-use Rattle.frame_walk.specs.Places.{pending_offset}
-use Rattle.plain_words.specs.Code.{poll, base_of, offset_of}
+use Rattle.frame_walk.specs.Places.{holder_offset, local_offset, pending_offset}
+use Rattle.plain_words.specs.Code.{poll, base_of, offset_of, method_code}
 
 -- %g1, %g2, %g5, %g7 and the outs but %sp may change between polls; all else of a frame and of the activity's counts stays. Register 0
 -- is 0 in every machine.
@@ -125,3 +125,59 @@ pub record CanReturn (m : MachineState) : Type 0 where
   pub aligned : add (m.regs 31) 8 % 4 ≡ 0
   pub within : add (m.regs 31) 8 < 0x12000000
   pub place : m.older ≡ [] → IsPlace (m.regs 30)
+
+-- memory with words put from an address on
+abbrev pub with_words : Words → ℕ → List ℕ → Words
+with_words memory at [] = memory
+with_words memory at (w ∷ ws) = with_words (with_word memory at w) (at + 4) ws
+
+-- the words of so many registers from one on
+abbrev pub registers_from : (ℕ → ℕ) → ℕ → ℕ → List ℕ
+registers_from regs r zero = []
+registers_from regs r (suc n) = regs r ∷ registers_from regs (r + 1) n
+
+-- a method's holder as it is handed over
+abbrev pub handed_holder : MachineState → ℕ
+handed_holder m = if nat_eq (m.regs 5) 0 then m.regs 8 else m.regs 5
+
+-- A method can be entered: the machine stands at its words, and there is room for its frame of so many words below the frame in view.
+pub record CanEnter (m : MachineState) (p words arguments : ℕ) (initial : List ℕ) : Type 0 where
+  pub stands : StandsAt m p
+  pub code_region : IsCodeFrom p (length (method_code (4 * words) arguments initial))
+  pub code_there : At m.memory p (method_code (4 * words) arguments initial)
+  pub few : arguments ≤ 5
+  pub room : 27 + arguments + length initial ≤ words
+  pub place : ℕ
+  pub below : m.regs 14 ≡ place + 4 * words
+  pub frame : HasFrame place words
+  pub can_save : CanSave (stack_of m)
+  pub within : IsWithin m.memory
+  pub register_0 : m.regs 0 ≡ 0
+
+-- what it keeps in its frame
+abbrev pub entered_memory : MachineState → ℕ → ℕ → List ℕ → Words
+entered_memory m place arguments initial =
+    with_words (with_word (with_room m.memory (m.regs 30) m.older) (place + holder_offset) (handed_holder m)) (place + local_offset 0) (registers_from m.regs 9 arguments ++ initial)
+
+-- a method was entered: its frame is in view, that of its caller is the youngest of the older ones
+pub record Entered (m to : MachineState) (p place : ℕ) (memory : Words) : Type 0 where
+  pub stands : StandsAt to p
+  pub memory_is : to.memory ≡ memory
+  pub receiver : to.regs 24 ≡ m.regs 8
+  pub outer : to.regs 16 ≡ 0
+  pub context : to.regs 17 ≡ 0
+  pub frame : to.regs 14 ≡ place
+  pub caller : to.regs 30 ≡ m.regs 14
+  pub returns : to.regs 31 ≡ m.regs 15
+  pub counted : to.regs 2 ≡ (m.regs 2 + 1) % 2 ^ 32
+  pub activations : to.regs 4 ≡ (m.regs 4 + 1) % 2 ^ 32
+  pub cost : to.regs 3 ≡ m.regs 3
+  pub top : to.regs 6 ≡ m.regs 6
+  pub older : to.older ≡ kept m.regs ∷ but_spilled m.older
+
+-- so many instructions lead into the method
+pub record Enters (m : MachineState) (p place : ℕ) (memory : Words) : Type 0 where
+  pub instructions : ℕ
+  pub to : MachineState
+  pub goes : Goes instructions m to
+  pub entered : Entered m to p place memory

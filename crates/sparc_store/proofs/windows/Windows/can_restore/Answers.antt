@@ -10,8 +10,7 @@ returns-then-self-gt0 c memory = (
 )
 
 pub returns : goal.returns
-returns c memory =
-    (
-      λ yes _. rw c.get.ensures at (c.is_place.ensures.0 yes),
-      λ can. c.is_place.ensures.1 (rw c.get.ensures (can (no_older c.args.self.now (omega (arith, c.if-self-gt0.false, ap (λ (r : Ring). r.held) c.self.view_is))))),
-    )
+returns c memory = (
+  λ yes _. rw c.get.ensures at (c.is_place.ensures.0 yes),
+  λ can. c.is_place.ensures.1 (rw c.get.ensures (can (no_older c.args.self.now (omega (arith, c.if-self-gt0.false, ap (λ (r : Ring). r.held) c.self.view_is))))),
+)

@@ -11,8 +11,7 @@ returns-then-self-lt-OLDER c memory = (
 
 pub returns : goal.returns
 returns c memory =
-    let full : 6 ≤ length (older_of c.args.self.now) = omega (arith, length-older_of c.args.self.now, c.if-self-lt-OLDER.false, ap (λ (r : Ring). r.held) c.self.view_is) in
-    (
+    let full : 6 ≤ length (older_of c.args.self.now) = omega (arith, length-older_of c.args.self.now, c.if-self-lt-OLDER.false, ap (λ (r : Ring). r.held) c.self.view_is) in (
       λ yes _. rw c.oldest_place.ensures at (c.is_place.ensures.0 yes),
       λ can. c.is_place.ensures.1 (rw c.oldest_place.ensures (can full)),
     )
