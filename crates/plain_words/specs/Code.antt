@@ -128,7 +128,7 @@ abbrev pub frame_code : ℕ → List Insn
 frame_code bytes = Three ops.Save 14 14 (Imm (negsuc (bytes - 1))) ∷ []
 
 abbrev pub holder_code : List Insn
-holder_code = Three ops.SubCc 0 5 (Imm (pos 0)) ∷ Branch true 1 (pos 2) ∷ move 5 24 ∷ []
+holder_code = Three ops.OrCc 0 5 (Imm (pos 0)) ∷ Branch true 1 (pos 2) ∷ move 5 24 ∷ []
 
 abbrev pub argument_stores : ℕ → ℕ → ℕ → List Insn
 argument_stores register slot zero = []

@@ -1,10 +1,10 @@
 // What the words of each node do.
-ghost use Rattle.std.specs.Prelude.{◌<◌, ◌≤◌, ℕ, ◌+◌, ◌*◌, Bool};
+ghost use Rattle.std.specs.Prelude.{List, length, ◌<◌, ◌≤◌, ℕ, ◌+◌, ◌*◌, Bool};
 ghost use Rattle.sparc_store.specs.Words.{word_at};
 ghost use Rattle.sparc_machine.specs.State.{MachineState};
 ghost use Rattle.frame_walk.specs.Places.{pending_offset};
-ghost use Rattle.plain_words.specs.Code.{constant_code, self_code, drop_code, read_code, store_code, send_code, implied_code, non_local_code, return_code};
-ghost use Rattle.plain_words.specs.Moves.{IsReady, Does, pended, HasLocal, local_address, assigned, Asks, Ends, CanReturn, HasContext, unmarked};
+ghost use Rattle.plain_words.specs.Code.{constant_code, self_code, drop_code, read_code, store_code, send_code, implied_code, non_local_code, return_code, method_code};
+ghost use Rattle.plain_words.specs.Moves.{IsReady, Does, pended, HasLocal, local_address, assigned, Asks, Ends, CanReturn, HasContext, unmarked, CanEnter, Enters, entered_memory};
 
 /// The words of a constant pend it.
 pub fn constants_are_pended()
@@ -57,5 +57,11 @@ pub fn home_returns_are_asked()
 /// Those of a return lead to the caller's frame, with the answer in its %o0, and put 0 for the mark of the activation's context.
 pub fn activations_return()
     ensures { (m : MachineState) (p words : ℕ) (owns : Bool) (locals k : ℕ) → IsReady m p words (return_code owns locals k) → 27 + locals + k < words → HasContext m owns → CanReturn m → Ends m (unmarked m owns) (word_at m.memory (m.regs 14 + pending_offset locals k)) }
+{
+}
+
+/// Those before a method's first node lead into it: its frame is made and filled, and the activation and the step are counted.
+pub fn methods_are_entered()
+    ensures { (m : MachineState) (p words arguments : ℕ) (initial : List ℕ) (c : CanEnter m p words arguments initial) → Enters m (p + 4 * length (method_code (4 * words) arguments initial)) c.place (entered_memory m c.place arguments initial) }
 {
 }
