@@ -7,3 +7,4 @@ pub mod Reading
 pub mod Sending
 pub mod Returning
 pub mod Prologue
+pub mod Shown

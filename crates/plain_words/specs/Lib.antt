@@ -2,3 +2,5 @@
 pub mod Code
 pub mod Going
 pub mod Moves
+pub mod Showing
+pub mod Units

@@ -4,6 +4,8 @@ ghost use Rattle.sparc_store.specs.Words.{word_at};
 ghost use Rattle.sparc_machine.specs.State.{MachineState};
 ghost use Rattle.frame_walk.specs.Places.{pending_offset};
 ghost use Rattle.plain_words.specs.Code.{constant_code, self_code, drop_code, read_code, store_code, send_code, implied_code, non_local_code, return_code, method_code};
+ghost use Rattle.plain_words.specs.Units.{unit_code};
+ghost use Rattle.plain_words.specs.Showing.{PendedShows, LeftShows};
 ghost use Rattle.plain_words.specs.Moves.{IsReady, Does, pended, HasLocal, local_address, assigned, Asks, Ends, CanReturn, HasContext, unmarked, CanEnter, Enters, entered_memory};
 
 /// The words of a constant pend it.
@@ -63,5 +65,12 @@ pub fn activations_return()
 /// Those before a method's first node lead into it: its frame is made and filled, and the activation and the step are counted.
 pub fn methods_are_entered()
     ensures { (m : MachineState) (p words arguments : ℕ) (initial : List ℕ) (c : CanEnter m p words arguments initial) → Enters m (p + 4 * length (method_code (4 * words) arguments initial)) c.place (entered_memory m c.place arguments initial) }
+{
+}
+
+/// What the frame in view shows after a word was pended, and where nothing was stored.
+pub fn frames_show_on()
+    ensures pended { PendedShows }
+    ensures left { LeftShows }
 {
 }
