@@ -4,7 +4,7 @@ use Rattle.std.specs.Prelude.{List, [], ◌∷◌, map, nat_lt, Bool, true, fals
 use Rattle.sparc_store.specs.Words.{Words, word_at, HasFrame}
 use Rattle.sparc_store.specs.Windows.{Frame as Window, frame_before, but_first, saved_at}
 use Rattle.frame_walk.specs.Places.{Place, Register, Slot, Constant, Descriptor, Frame, shown, word_in_place}
-use Rattle.frame_walk.specs.Walk.{activations, IsInside, AreInside, Fits, IsFrameOf, AreLaid, SameBetween, Rests}
+use Rattle.frame_walk.specs.Walk.{activations, IsInside, AreInside, Fits, IsFrameOf, Asked, AreLaid, Frames, SameBetween}
 
 place_same : (old new : Words) (window : Window) (sp bytes : ℕ) (p : Place) → IsInside bytes p → SameBetween sp (sp + bytes) old new → word_in_place new window sp p ≡ word_in_place old window sp p
 place_same old new window sp bytes (Register r) inside same = refl
@@ -46,27 +46,50 @@ before_same old new at [] same = saved_same old new at same
 before_same old new at (f ∷ held) same = refl
 
 -- frames end below the frame of entry
-pub ends_below : (descs : ℕ → Descriptor) (entry end : ℕ) (memory : Words) (n sp : ℕ) (window : Window) (pc : ℕ) (held : List Window) → AreLaid descs entry end memory n sp window pc held → sp ≤ entry
+pub ends_below : (descs : ℕ → Descriptor) (asked : Asked) (entry end : ℕ) (memory : Words) (n sp : ℕ) (window : Window) (pc : ℕ) (held : List Window) → Frames descs asked → AreLaid asked entry end memory n sp window pc held → sp ≤ entry
 unfolding AreLaid
-ends_below descs entry end memory zero sp window pc held laid = omega (arith, laid.0)
-ends_below descs entry end memory (suc n) sp window pc held laid =
-    let more = ends_below descs entry end memory n (window 14) (frame_before memory (window 14) held) (window 15 + 8) (but_first held) laid.1 in
-    omega (arith, more, laid.0.ends)
+ends_below descs asked entry end memory zero sp window pc held all laid = omega (arith, laid.0)
+ends_below descs asked entry end memory (suc n) sp window pc held all laid =
+    let more = ends_below descs asked entry end memory n (window 14) (frame_before memory (window 14) held) (window 15 + 8) (but_first held) all laid.1 in
+    omega (arith, more, (all pc sp (window 14) laid.0).ends)
 
-pub rests : Rests
+-- they show the same over another memory that has the words from where the youngest begins up to the end of the saved words of the frame of
+-- entry, and are laid there
+pub rests : (descs : ℕ → Descriptor) (asked : Asked) (entry end : ℕ) (old new : Words) (n sp : ℕ) (window : Window) (pc : ℕ) (held : List Window)
+    → Frames descs asked → AreLaid asked entry end old n sp window pc held → SameBetween sp (entry + 64) old new
+    → (activations descs new n sp window pc held ≡ activations descs old n sp window pc held) × AreLaid asked entry end new n sp window pc held
 unfolding activations AreLaid
-rests descs entry end old new zero sp window pc held laid same = (refl, laid)
-rests descs entry end old new (suc n) sp window pc held laid same =
-    let f = laid.0 in
+rests descs asked entry end old new zero sp window pc held all laid same = (refl, laid)
+rests descs asked entry end old new (suc n) sp window pc held all laid same =
+    let f = all pc sp (window 14) laid.0 in
     let fp = window 14 in
-    let top = ends_below descs entry end old n fp (frame_before old fp held) (window 15 + 8) (but_first held) laid.1 in
+    let top = ends_below descs asked entry end old n fp (frame_before old fp held) (window 15 + 8) (but_first held) all laid.1 in
     let own : SameBetween sp (sp + 4 * f.words) old new = λ b from to. same b from (omega (arith, f.ends, top)) in
     let above : SameBetween fp (entry + 64) old new = λ b from to. same b (omega (arith, f.ends)) to in
     let saved = before_same old new fp held (λ b from to. same b (omega (arith, f.ends)) (omega (arith, top))) in
-    let rest = rests descs entry end old new n fp (frame_before old fp held) (window 15 + 8) (but_first held) laid.1 above in
-    let P : Window → Type 0 = λ w. AreLaid descs entry end new n fp w (window 15 + 8) (but_first held) in (
+    let rest = rests descs asked entry end old new n fp (frame_before old fp held) (window 15 + 8) (but_first held) all laid.1 above in
+    let P : Window → Type 0 = λ w. AreLaid asked entry end new n fp w (window 15 + 8) (but_first held) in (
       ap (λ x. x ∷ activations descs new n fp (frame_before new fp held) (window 15 + 8) (but_first held)) (shown_same old new window sp (4 * f.words) (descs pc) f.fits own)
           ∙ ap (λ w. shown old window sp (descs pc) ∷ activations descs new n fp w (window 15 + 8) (but_first held)) saved
           ∙ ap (λ fs. shown old window sp (descs pc) ∷ fs) rest.0,
-      (f, subst P (sym saved) rest.1),
+      (laid.0, subst P (sym saved) rest.1),
     )
+
+-- what is asked of each frame may be less
+pub laid_as : (asked other : Asked) (entry end : ℕ) (memory : Words) (n sp : ℕ) (window : Window) (pc : ℕ) (held : List Window)
+    → ((pc sp fp : ℕ) → asked pc sp fp → other pc sp fp) → AreLaid asked entry end memory n sp window pc held → AreLaid other entry end memory n sp window pc held
+unfolding AreLaid
+laid_as asked other entry end memory zero sp window pc held h laid = laid
+laid_as asked other entry end memory (suc n) sp window pc held h laid =
+    (h pc sp (window 14) laid.0, laid_as asked other entry end memory n (window 14) (frame_before memory (window 14) held) (window 15 + 8) (but_first held) h laid.1)
+
+-- descriptors that agree wherever frames go on show the same
+pub shown_as : (descs others : ℕ → Descriptor) (asked : Asked) (entry end : ℕ) (memory : Words) (n sp : ℕ) (window : Window) (pc : ℕ) (held : List Window)
+    → ((pc sp fp : ℕ) → asked pc sp fp → others pc ≡ descs pc) → AreLaid asked entry end memory n sp window pc held
+    → activations others memory n sp window pc held ≡ activations descs memory n sp window pc held
+unfolding activations AreLaid
+shown_as descs others asked entry end memory zero sp window pc held h laid = refl
+shown_as descs others asked entry end memory (suc n) sp window pc held h laid =
+    let fp = window 14 in
+    ap (λ d. shown memory window sp d ∷ activations others memory n fp (frame_before memory fp held) (window 15 + 8) (but_first held)) (h pc sp fp laid.0)
+    ∙ ap (λ fs. shown memory window sp (descs pc) ∷ fs) (shown_as descs others asked entry end memory n fp (frame_before memory fp held) (window 15 + 8) (but_first held) h laid.1)

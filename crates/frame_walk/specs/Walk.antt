@@ -40,20 +40,21 @@ pub record IsFrameOf (d : Descriptor) (sp fp : ℕ) : Type 0 where
   pub place : HasFrame sp words
   pub fits : Fits (4 * words) d
 
--- So many frames, the first of which begins at sp, lie one above the other, and the oldest ends where the frame of entry begins, whose code
--- goes on at `end`.
-unfoldable pub AreLaid : (ℕ → Descriptor) → ℕ → ℕ → Words → ℕ → ℕ → Window → ℕ → List Window → Type 0
-AreLaid descs entry end memory zero sp window pc held = (sp ≡ entry) × (pc ≡ end)
-AreLaid descs entry end memory (suc n) sp window pc held =
-    IsFrameOf (descs pc) sp (window 14)
-    × AreLaid descs entry end memory n (window 14) (frame_before memory (window 14) held) (window 15 + 8) (but_first held)
+-- what is asked of a frame: of the address where its code goes on, of where it begins, and of where the next older one begins
+abbrev pub Asked : Type 1
+Asked = ℕ → ℕ → ℕ → Type 0
+
+-- So many frames, the first of which begins at sp, are as it is asked, and the oldest ends where the frame of entry begins, whose code goes
+-- on at `end`.
+unfoldable pub AreLaid : Asked → ℕ → ℕ → Words → ℕ → ℕ → Window → ℕ → List Window → Type 0
+AreLaid asked entry end memory zero sp window pc held = (sp ≡ entry) × (pc ≡ end)
+AreLaid asked entry end memory (suc n) sp window pc held =
+    asked pc sp (window 14) × AreLaid asked entry end memory n (window 14) (frame_before memory (window 14) held) (window 15 + 8) (but_first held)
+
+-- that is so only of frames that have room for what these descriptors name
+abbrev pub Frames : (ℕ → Descriptor) → Asked → Type 0
+Frames descs asked = (pc sp fp : ℕ) → asked pc sp fp → IsFrameOf (descs pc) sp fp
 
 -- another memory has the same words from one address up to another
 abbrev pub SameBetween : ℕ → ℕ → Words → Words → Type 0
 SameBetween from to old new = (b : ℕ) → from ≤ b → b < to → word_at new b ≡ word_at old b
-
--- A law: what frames show rests on the words from where the first begins up to the end of the frame of entry's saved words.
-abbrev pub Rests : Type 0
-Rests = (descs : ℕ → Descriptor) (entry end : ℕ) (old new : Words) (n sp : ℕ) (window : Window) (pc : ℕ) (held : List Window)
-    → AreLaid descs entry end old n sp window pc held → SameBetween sp (entry + 64) old new
-    → (activations descs new n sp window pc held ≡ activations descs old n sp window pc held) × AreLaid descs entry end new n sp window pc held
