@@ -1,0 +1,6 @@
+use Rattle.std.proofs.Common.{refl}
+use Rattle.plain_runs.proofs.Located.{nodes_at, words_next, words_within, slice_front, slice_behind, times_is, times_long}
+use Rattle.plain_runs.proofs.laws.nothing.Goals as goal
+
+pub returns : goal.returns
+returns c = λ h pc sp fp x. refl

@@ -1,0 +1,4 @@
+-- Plain code under its host.
+pub mod Host
+pub mod Units
+pub mod Sound
