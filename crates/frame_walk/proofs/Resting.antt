@@ -41,7 +41,7 @@ saved_same : (old new : Words) (at : ℕ) → SameBetween at (at + 64) old new �
 unfolding saved_at
 saved_same old new at same = λ i k. saved_number old new at k (nat_lt k 16) (λ h. let l = lower k h in same (at + 4 * k) (omega arith) (omega arith)) i
 
-before_same : (old new : Words) (at : ℕ) (held : List Window) → SameBetween at (at + 64) old new → frame_before new at held ≡ frame_before old at held
+pub before_same : (old new : Words) (at : ℕ) (held : List Window) → SameBetween at (at + 64) old new → frame_before new at held ≡ frame_before old at held
 before_same old new at [] same = saved_same old new at same
 before_same old new at (f ∷ held) same = refl
 

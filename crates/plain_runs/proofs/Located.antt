@@ -13,7 +13,7 @@ use Rattle.plain_words.specs.Units.{References, Point, node_code, nodes_code, no
 use Rattle.plain_words.proofs.Basics.{at_front, at_behind}
 use Rattle.plain_runs.specs.Units.{words_before, node_offset, HasUnit}
 
-some_is : {A : Type 0} (a b : A) → Some a ≡ Some b → a ≡ b
+pub some_is : {A : Type 0} (a b : A) → Some a ≡ Some b → a ≡ b
 some_is a b e = cc
 
 -- a node's words, among those of a list of nodes
@@ -37,7 +37,7 @@ nodes_at (x ∷ xs) (suc n) node r owns locals at k p memory e h =
     subst (λ a. P (p + 4 * (words + before)) a) e2 (subst (λ q. P q (at + words + before)) e1 g)
 
 -- none before the first
-none_before : (nodes : List Node) (r : References) (owns : Bool) (locals at k : ℕ) → words_before r owns locals at k nodes 0 ≡ 0
+pub none_before : (nodes : List Node) (r : References) (owns : Bool) (locals at k : ℕ) → words_before r owns locals at k nodes 0 ≡ 0
 none_before [] r owns locals at k = refl
 none_before (x ∷ xs) r owns locals at k = refl
 

@@ -2,15 +2,18 @@
 use Rattle.std.specs.Prelude.{◌≡◌, ◌≢◌, ◌⊎◌, ℕ, zero, suc, ◌+◌, ◌-◌, ◌*◌, ◌/◌, ◌%◌, ◌<◌, ◌≤◌, List, [], ◌∷◌, length, Some, slice_get}
 use Rattle.self_terms.specs.declared.nodes.Node.{Node}
 use Rattle.sparc_insn.specs.declared.insn.Insn.TheVariants.{Trap}
-use Rattle.sparc_store.specs.Words.{Words, HasFrame}
-use Rattle.sparc_store.specs.Windows.{kept, saved_at}
+use Rattle.sparc_store.specs.Words.{Words, word_at, HasFrame}
+use Rattle.sparc_store.specs.Windows.{kept, saved_at, frame_before, but_first}
 use Rattle.sparc_machine.specs.State.{MachineState, IsWhole}
 use Rattle.source_model.specs.Soundness.{body_in}
+use Rattle.frame_walk.specs.Places.{Frame}
+use Rattle.frame_walk.specs.Raw.{Going, becomes}
 use Rattle.frame_walk.specs.Walk.{AreLaid}
-use Rattle.plain_words.specs.Going.{At}
-use Rattle.plain_words.specs.Units.{frame_words}
-use Rattle.plain_runs.specs.Host.{Host, Status, Waiting, point_at}
-use Rattle.plain_runs.specs.Units.{HasUnit, IsPoll, IsBehindCall}
+use Rattle.self_terms.specs.Depths.{taken, depth}
+use Rattle.plain_words.specs.Going.{At, StandsAt}
+use Rattle.plain_words.specs.Units.{frame_words, frame_locals}
+use Rattle.plain_runs.specs.Host.{Host, Status, Waiting, seen, raw_of}
+use Rattle.plain_runs.specs.Units.{HasUnit, IsPoll, IsInPoll, IsBehindCall}
 
 -- where the oldest activation of an activity returns to, and where its stack's frame of entry begins
 abbrev pub ending_stub : ℕ
@@ -32,7 +35,44 @@ pub record IsCaller (h : Host) (pc sp fp : ℕ) : Type 0 where
   pub call : IsBehindCall h pc body number node
   pub room : IsRoomy h body sp fp
 
--- a frame at the poll of a node
-pub record IsYoungest (h : Host) (b n pc sp fp : ℕ) : Type 0 where
-  pub poll : IsPoll h pc b n
-  pub room : IsRoomy h b sp fp
+-- A body that plain code runs: no more values are pending than its frames have room for, and each node takes some of those that are there.
+pub record IsRunnable (h : Host) (b : ℕ) : Type 0 where
+  pub takes : (n : ℕ) (node : Node) → slice_get (body_in h.bodies b).nodes n ≡ Some node → taken node ≤ depth (body_in h.bodies b).nodes n
+  pub room : (n : ℕ) → 28 + frame_locals (body_in h.bodies b) + depth (body_in h.bodies b).nodes n ≤ frame_words (body_in h.bodies b)
+
+-- The activity runs: the youngest of its activations is at the poll of a node of a body, with this many values pending, and the others wait.
+pub record RunsAt (h : Host) (b n : ℕ) (node : Node) : Type 0 where
+  pub sp : ℕ
+  pub pc : ℕ
+  pub known : ℕ
+  pub running : slice_get h.statuses h.current ≡ Some (Waiting sp pc known)
+  pub stands : StandsAt h.machine h.machine.pc
+  pub poll : IsPoll h h.machine.pc b n
+  pub node_is : slice_get (body_in h.bodies b).nodes n ≡ Some node
+  pub body : IsRunnable h b
+  pub frame : IsRoomy h b (h.machine.regs 14) (h.machine.regs 30)
+  pub older : ℕ
+  pub count : h.machine.regs 4 ≡ suc older
+  pub callers : AreLaid (IsCaller h) (entry_frame h.current) ending_stub h.machine.memory older (h.machine.regs 30) (frame_before h.machine.memory (h.machine.regs 30) h.machine.older) (h.machine.regs 31 + 8) (but_first h.machine.older)
+
+-- a frame of an activity that waits: the youngest is in a poll, and the others wait for an answer
+pub data IsHeld (h : Host) (pc sp fp : ℕ) : Type 0 where
+  Calls : IsCaller h pc sp fp → IsHeld h pc sp fp
+  Polls : (b n : ℕ) → IsInPoll h pc b n → IsRunnable h b → IsRoomy h b sp fp → IsHeld h pc sp fp
+
+-- What holds wherever plain code runs, beside the activity that runs: the machine is whole; the units stand that are said to stand; so does
+-- the stub to which the oldest activations return; and the frames of each other activity lie in its stack.
+pub record IsHosted (h : Host) : Type 0 where
+  pub whole : IsWhole h.machine
+  pub units : (b at : ℕ) → 0 < b → slice_get h.entries (b - 1) ≡ Some at → at ≢ 0 → HasUnit h b at
+  pub stub : At h.machine.memory ending_stub (Trap 9 ∷ [])
+  pub activities : length h.statuses ≤ 4
+  pub others : (k sp pc count : ℕ) → slice_get h.statuses k ≡ Some (Waiting sp pc count) → k ≢ h.current
+    → AreLaid (IsHeld h) (entry_frame k) ending_stub h.machine.memory count sp (saved_at h.machine.memory sp) pc []
+  pub inside : (k sp pc count : ℕ) → slice_get h.statuses k ≡ Some (Waiting sp pc count) → k ≢ h.current → 0x40000000 + k * 0x02000000 ≤ sp
+  pub goal : word_at h.machine.memory 0x30000000 ≤ 1000000000
+
+-- The host with its machine gone on in its own frame: what it shows is what it showed, but for the youngest activation and the step.
+pub record GoesOn (h to : Host) (next : Frame) : Type 0 where
+  pub hosted : IsHosted to
+  pub raw : (f : Frame) (fs : List Frame) → seen h ≡ f ∷ fs → raw_of to ≡ becomes (raw_of h) (Going (next ∷ fs))
