@@ -37,7 +37,7 @@ saved_number old new at k false h = refl
 lower : (k : ℕ) → nat_lt k 16 ≡ true → k < 16
 lower k h = grind arith
 
-saved_same : (old new : Words) (at : ℕ) → SameBetween at (at + 64) old new → saved_at new at ≡ saved_at old at
+pub saved_same : (old new : Words) (at : ℕ) → SameBetween at (at + 64) old new → saved_at new at ≡ saved_at old at
 unfolding saved_at
 saved_same old new at same = λ i k. saved_number old new at k (nat_lt k 16) (λ h. let l = lower k h in same (at + 4 * k) (omega arith) (omega arith)) i
 

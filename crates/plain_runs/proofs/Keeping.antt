@@ -102,5 +102,5 @@ threads_set h to from (suc c) (s ∷ ss) sp pc n e at is w =
     ∙ ap (λ ts. thread_of h from s ∷ ts) (threads_set h to (from + 1) c ss sp pc n e (omega (arith, at)) is (rest_waits h to from s ss w))
 
 -- a word of a stack isn't one of the heap
-no_heap : (at k : ℕ) → 0x40000000 ≤ at → place_of at ≡ Heap k → ⊥
+pub no_heap : (at k : ℕ) → 0x40000000 ≤ at → place_of at ≡ Heap k → ⊥
 no_heap at k high e = grind (arith, common_steps)

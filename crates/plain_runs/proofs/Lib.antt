@@ -1,3 +1,4 @@
 pub mod Located
 pub mod Pointed
 pub mod Keeping
+pub mod Working

@@ -2,17 +2,17 @@
 use Rattle.std.specs.Prelude.{◌≡◌, ◌≢◌, ◌⊎◌, ℕ, zero, suc, ◌+◌, ◌-◌, ◌*◌, ◌/◌, ◌%◌, ◌<◌, ◌≤◌, List, [], ◌∷◌, length, Some, slice_get}
 use Rattle.self_terms.specs.declared.nodes.Node.{Node}
 use Rattle.sparc_insn.specs.declared.insn.Insn.TheVariants.{Trap}
-use Rattle.sparc_store.specs.Words.{Words, word_at, HasFrame}
+use Rattle.sparc_store.specs.Words.{Words, word_at, HasFrame, IsWithin}
 use Rattle.sparc_store.specs.Windows.{kept, saved_at, frame_before, but_first}
-use Rattle.sparc_machine.specs.State.{MachineState, IsWhole}
+use Rattle.sparc_machine.specs.State.{MachineState}
 use Rattle.source_model.specs.Soundness.{body_in}
 use Rattle.frame_walk.specs.Places.{Frame}
-use Rattle.frame_walk.specs.Raw.{Going, becomes}
-use Rattle.frame_walk.specs.Walk.{AreLaid}
+use Rattle.frame_walk.specs.Raw.{Thread, Going, becomes}
+use Rattle.frame_walk.specs.Walk.{activations, AreLaid}
 use Rattle.self_terms.specs.Depths.{taken, depth}
 use Rattle.plain_words.specs.Going.{At, StandsAt}
 use Rattle.plain_words.specs.Units.{frame_words, frame_locals}
-use Rattle.plain_runs.specs.Host.{Host, Status, Waiting, seen, raw_of}
+use Rattle.plain_runs.specs.Host.{Host, Status, Waiting, seen, descriptor_at, raw_of}
 use Rattle.plain_runs.specs.Units.{HasUnit, IsPoll, IsInPoll, IsBehindCall}
 
 -- where the oldest activation of an activity returns to, and where its stack's frame of entry begins
@@ -60,19 +60,24 @@ pub data IsHeld (h : Host) (pc sp fp : ℕ) : Type 0 where
   Calls : IsCaller h pc sp fp → IsHeld h pc sp fp
   Polls : (b n : ℕ) → IsInPoll h pc b n → IsRunnable h b → IsRoomy h b sp fp → IsHeld h pc sp fp
 
--- What holds wherever plain code runs, beside the activity that runs: the machine is whole; the units stand that are said to stand; so does
+-- What holds wherever plain code runs, beside the activity that runs: memory is whole; the units stand that are said to stand; so does
 -- the stub to which the oldest activations return; and the frames of each other activity lie in its stack.
 pub record IsHosted (h : Host) : Type 0 where
-  pub whole : IsWhole h.machine
+  pub within : IsWithin h.machine.memory
+  pub register_0 : h.machine.regs 0 ≡ 0
   pub units : (b at : ℕ) → 0 < b → slice_get h.entries (b - 1) ≡ Some at → at ≢ 0 → HasUnit h b at
   pub stub : At h.machine.memory ending_stub (Trap 9 ∷ [])
   pub activities : length h.statuses ≤ 4
   pub others : (k sp pc count : ℕ) → slice_get h.statuses k ≡ Some (Waiting sp pc count) → k ≢ h.current
     → AreLaid (IsHeld h) (entry_frame k) ending_stub h.machine.memory count sp (saved_at h.machine.memory sp) pc []
-  pub inside : (k sp pc count : ℕ) → slice_get h.statuses k ≡ Some (Waiting sp pc count) → k ≢ h.current → 0x40000000 + k * 0x02000000 ≤ sp
   pub goal : word_at h.machine.memory 0x30000000 ≤ 1000000000
 
--- The host with its machine gone on in its own frame: what it shows is what it showed, but for the youngest activation and the step.
-pub record GoesOn (h to : Host) (next : Frame) : Type 0 where
+-- the activations that wait below the youngest of the current activity, so many of them
+abbrev pub callers_of : Host → ℕ → List Frame
+callers_of h older =
+    activations (descriptor_at h) h.machine.memory older (h.machine.regs 30) (frame_before h.machine.memory (h.machine.regs 30) h.machine.older) (h.machine.regs 31 + 8) (but_first h.machine.older)
+
+-- The host with its machine gone on: what it shows is what it showed, but for a step and the current activity, which is this now.
+pub record GoesOn (h to : Host) (now : Thread) : Type 0 where
   pub hosted : IsHosted to
-  pub raw : (f : Frame) (fs : List Frame) → seen h ≡ f ∷ fs → raw_of to ≡ becomes (raw_of h) (Going (next ∷ fs))
+  pub raw : raw_of to ≡ becomes (raw_of h) now

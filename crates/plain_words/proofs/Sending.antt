@@ -15,7 +15,7 @@ use Rattle.frame_walk.specs.Places.{pending_offset}
 use Rattle.plain_words.specs.Code.{poll, take, move, arguments_code, send_code, implied_code, non_local_code, primitive_code, count, pend}
 use Rattle.plain_words.specs.Moves.{is_scratch, IsReady, Moved, Asks, AreArguments}
 use Rattle.plain_words.proofs.Basics.{goes_then, at_trap, at_front, at_behind, stands_as, other_register, goes_none}
-use Rattle.plain_words.proofs.Straight.{straight, all_straight, all_spare, CanAll, CanGo, goes_straight, straight_spares, straight_older, code_stays, both_straight, both_spare}
+use Rattle.plain_words.proofs.Straight.{straight, all_straight, all_spare, CanAll, CanGo, spared, goes_straight, straight_spares, straight_older, code_stays, both_straight, both_spare}
 use Rattle.plain_words.proofs.Placing.{IsPlaced, placed}
 use Rattle.plain_words.proofs.Polls.{polled, poll_goes, poll_spares}
 
@@ -30,13 +30,17 @@ arguments_straight to locals k (suc n) = arguments_straight (to + 1) locals (k +
 is_out : (r : ℕ) → 8 ≤ r → r < 14 → is_scratch r ≡ true
 is_out r low high = grind (arith, common_steps)
 
+out_spared : (a b : Bool) → b ≡ true → (a || b) ≡ true
+out_spared true b e = refl
+out_spared false b e = e
+
 both : (x a : Bool) → x ≡ true → a ≡ true → (if x then a else false) ≡ true
 both true a e f = f
 both false a e f = absurd (cc)
 
 arguments_spare : (to locals k n : ℕ) → 9 ≤ to → to + n ≤ 14 → all_spare (arguments_code to locals k n) ≡ true
 arguments_spare to locals k zero low high = refl
-arguments_spare to locals k (suc n) low high = both (is_scratch to) (all_spare (arguments_code (to + 1) locals (k + 1) n)) (is_out to (omega arith) (omega arith)) (arguments_spare (to + 1) locals (k + 1) n (omega arith) (omega arith))
+arguments_spare to locals k (suc n) low high = both (spared to) (all_spare (arguments_code (to + 1) locals (k + 1) n)) (out_spared (nat_eq to 0) (is_scratch to) (is_out to (omega arith) (omega arith))) (arguments_spare (to + 1) locals (k + 1) n (omega arith) (omega arith))
 
 -- what the loads leave: memory, and each register but those that they load
 pub record Loaded (t to : MachineState) (from : ℕ) : Type 0 where

@@ -1,6 +1,6 @@
 -- Straight code: sums, loads and stores one after the other.
 use Rattle.std.proofs.Common.{◌≡◌, ◌≢◌, ℕ, zero, suc, ◌+◌, ◌*◌, ◌%◌, ◌^◌, ◌<◌, ◌≤◌, refl, ◌∙◌, ap, sym, subst, arith, inl, inr}
-use Rattle.std.specs.Prelude.{Option, Some, None, List, [], ◌∷◌, ◌++◌, length, Bool, true, false, not, nat_eq, ◌&&◌, if◌then◌else◌}
+use Rattle.std.specs.Prelude.{Option, Some, None, List, [], ◌∷◌, ◌++◌, length, Bool, true, false, not, nat_eq, ◌&&◌, ◌||◌, if◌then◌else◌}
 use Rattle.std.proofs.lemmas.Bool.{eqb-true}
 use Rattle.sparc_insn.specs.declared.insn.Insn.{Insn}
 use Rattle.sparc_insn.specs.declared.insn.Insn.TheVariants.{Sethi, Branch, Three, Trap}
@@ -132,10 +132,14 @@ goes_straight (i ∷ is) m p s a at all can =
 
 -- What stays.
 
+-- a register whose writing leaves all that isn't scratch; register 0 takes no write
+abbrev pub spared : ℕ → Bool
+spared rd = nat_eq rd 0 || is_scratch rd
+
 abbrev pub spares : Insn → Bool
-spares (Sethi rd imm) = is_scratch rd
+spares (Sethi rd imm) = spared rd
 spares (Three ops.St rd rs1 from) = true
-spares (Three op rd rs1 from) = is_scratch rd
+spares (Three op rd rs1 from) = spared rd
 spares _ = false
 
 abbrev pub all_spare : List Insn → Bool
@@ -149,9 +153,20 @@ apart_number true r rd e s k =
     let g : is_scratch r ≡ is_scratch rd = ap is_scratch h in
     absurd (cc)
 
+no_write : (b : Bool) (w v : ℕ) → (if b && not true then w else v) ≡ v
+no_write true w v = refl
+no_write false w v = refl
+
+pub zero_takes : (regs : ℕ → ℕ) (w r : ℕ) → with_reg regs 0 w r ≡ regs r
+zero_takes regs w r = no_write (nat_eq r 0) w (regs r)
+
+by_zero : (b : Bool) (regs : ℕ → ℕ) (rd w r : ℕ) → nat_eq rd 0 ≡ b → (b || is_scratch rd) ≡ true → is_scratch r ≡ false → with_reg regs rd w r ≡ regs r
+by_zero true regs rd w r e s k = ap (λ d. with_reg regs d w r) (eqb-true rd 0 e) ∙ zero_takes regs w r
+by_zero false regs rd w r e s k = other_register regs rd w r (apart_number (nat_eq r rd) r rd refl s k)
+
 -- a register that isn't scratch keeps its word
-pub put_spares : (regs : ℕ → ℕ) (rd w r : ℕ) → is_scratch rd ≡ true → is_scratch r ≡ false → with_reg regs rd w r ≡ regs r
-put_spares regs rd w r s k = other_register regs rd w r (apart_number (nat_eq r rd) r rd refl s k)
+pub put_spares : (regs : ℕ → ℕ) (rd w r : ℕ) → spared rd ≡ true → is_scratch r ≡ false → with_reg regs rd w r ≡ regs r
+put_spares regs rd w r s k = by_zero (nat_eq rd 0) regs rd w r refl s k
 
 three_spares : (op : Op3) (rd rs1 : ℕ) (from : Operand) (m : MachineState) (r : ℕ) → straight_op op ≡ true → spares (Three op rd rs1 from) ≡ true → is_scratch r ≡ false
     → (effect (Three op rd rs1 from) m).regs r ≡ m.regs r

@@ -9,10 +9,9 @@ use Rattle.plain_words.specs.Going.{Goes, IsTrap, At, StandsAt, IsCodeFrom}
 use Rattle.frame_walk.specs.Places.{holder_offset, local_offset, pending_offset}
 use Rattle.plain_words.specs.Code.{poll, base_of, offset_of, method_code}
 
--- %g1, %g2, %g5, %g7 and the outs but %sp may change between polls; all else of a frame and of the activity's counts stays. Register 0
--- is 0 in every machine.
+-- %g1, %g2, %g5, %g7 and the outs but %sp may change between polls; all else of a frame and of the activity's counts stays.
 abbrev pub is_scratch : ℕ → Bool
-is_scratch r = (nat_le 8 r && nat_lt r 14) || nat_eq r 15 || nat_eq r 0 || nat_eq r 1 || nat_eq r 2 || nat_eq r 5 || nat_eq r 7
+is_scratch r = (nat_le 8 r && nat_lt r 14) || nat_eq r 15 || nat_eq r 1 || nat_eq r 2 || nat_eq r 5 || nat_eq r 7
 
 -- The machine is at the poll of a node, whose words stand there, with so many words of its frame above %sp, and a step is left of the goal.
 pub record IsReady (m : MachineState) (p words : ℕ) (code : List Insn) : Type 0 where
