@@ -2,3 +2,4 @@ pub mod Located
 pub mod Pointed
 pub mod Keeping
 pub mod Working
+pub mod Ready

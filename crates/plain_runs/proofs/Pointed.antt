@@ -82,7 +82,7 @@ abbrev body_of : Host → ℕ → Body
 body_of h b = body_in h.bodies b
 
 -- where a node's words are among those of its unit
-node_within : (r : References) (b : Body) (n : ℕ) (node : Node) → slice_get b.nodes n ≡ Some node
+pub node_within : (r : References) (b : Body) (n : ℕ) (node : Node) → slice_get b.nodes n ≡ Some node
     → node_offset r b (suc n) ≤ length (unit_code r b)
 node_within r b n node e =
     let w = words_within b.nodes (suc n) r (owns_context b) (frame_locals b) 0 0 in

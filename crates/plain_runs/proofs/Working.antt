@@ -54,7 +54,7 @@ pub record ChangedInView (h : Host) (b : ℕ) (to : MachineState) : Type 0 where
   pub heap : heap_words to.memory ≡ heap_words h.machine.memory
   pub within : IsWithin to.memory
 
-code_same : (h : Host) (b : ℕ) (to : MachineState) → ChangedInView h b to → SameCode h.machine.memory to.memory
+pub code_same : (h : Host) (b : ℕ) (to : MachineState) → ChangedInView h b to → SameCode h.machine.memory to.memory
 code_same h b to c = λ a low. c.changed a (inl (omega (arith, c.high)))
 
 above_same : (h : Host) (b : ℕ) (to : MachineState) (end : ℕ) → ChangedInView h b to → SameBetween (h.machine.regs 30) end h.machine.memory to.memory
@@ -204,10 +204,10 @@ seen_as d m older e = ap (λ n. activations d m.memory n (m.regs 14) (kept m.reg
 -- the machine goes on to the next node's poll in its own frame
 pub view_goes_on : (h : Host) (b n : ℕ) (node next : Node) (to : MachineState) (now : Frame) → (r : RunsAt h b n node) → IsHosted h → AllRun h → Frames (descriptor_at h) (IsHeld h) → h.current < 4 → ChangedInView h b to
     → ((k : ℕ) → is_scratch k ≡ false → to.regs k ≡ h.machine.regs k) → to.older ≡ h.machine.older → to.regs 2 ≡ h.machine.regs 2 + 1
-    → IsPoll (with_machine h to) to.pc b (n + 1) → slice_get (body_in h.bodies b).nodes (n + 1) ≡ Some next
+    → StandsAt to to.pc → IsPoll (with_machine h to) to.pc b (n + 1) → slice_get (body_in h.bodies b).nodes (n + 1) ≡ Some next
     → viewed to b (n + 1) (frame_locals (body_in h.bodies b)) (depth (body_in h.bodies b).nodes (n + 1)) ≡ now
-    → GoesOn h (with_machine h to) (Going (now ∷ callers_of h r.older))
-view_goes_on h b n node next to now r hosted run held low c keeps held_same counted poll next_is shows =
+    → GoesOn h (with_machine h to) (Going (now ∷ callers_of h r.older)) × RunsAt (with_machine h to) b (n + 1) next
+view_goes_on h b n node next to now r hosted run held low c keeps held_same counted stands poll next_is shows =
     let m = h.machine in
     let e30 = keeps 30 refl in
     let e31 = keeps 31 refl in
@@ -234,7 +234,13 @@ view_goes_on h b n node next to now r hosted run held low c keeps held_same coun
     let threads : threads_from h2 0 h.statuses ≡ slice_set (threads_from h 0 h.statuses) h.current (Going (now ∷ older)) =
         threads_set h h2 0 h.current h.statuses r.sp r.pc r.known refl (omega arith) r.running others.waits ∙ ap (λ x. slice_set (threads_from h 0 h.statuses) h.current (Going x)) now_seen in
     let code = code_same h b to c in
-    record {
+    let Q : ℕ → ℕ → Window → List Window → Type 0 = λ x y w held. AreLaid (IsCaller h2) (entry_frame h.current) ending_stub to.memory r.older x w (y + 8) held in
+    let laid_now : Q (to.regs 30) (to.regs 31) (frame_before to.memory (to.regs 30) to.older) (but_first to.older) =
+        subst (λ x. Q x (to.regs 31) (frame_before to.memory x to.older) (but_first to.older)) (sym e30)
+        (subst (λ y. Q (m.regs 30) y (frame_before to.memory (m.regs 30) to.older) (but_first to.older)) (sym e31)
+        (subst (λ x. Q (m.regs 30) (m.regs 31) (frame_before to.memory (m.regs 30) x) (but_first x)) (sym held_same)
+        (subst (λ x. Q (m.regs 30) (m.regs 31) x (but_first m.older)) (sym before) cs.1))) in
+    (record {
       hosted = record {
         within = c.within;
         register_0 = keeps 0 refl ∙ hosted.register_0;
@@ -253,4 +259,18 @@ view_goes_on h b n node next to now r hosted run held low c keeps held_same coun
         steps = (let e : h.steps + to.regs 2 ≡ h.steps + m.regs 2 + 1 = omega (arith, counted) in e) i;
         cost = ap (λ x. h.cost + x) (keeps 3 refl) i;
       };
-    }
+    },
+    record {
+      sp = r.sp;
+      pc = r.pc;
+      known = r.known;
+      running = r.running;
+      stands = stands;
+      poll = poll;
+      node_is = next_is;
+      body = record { takes = r.body.takes; room = r.body.room };
+      frame = record { ends = e30 ∙ r.frame.ends ∙ ap (λ x. x + 4 * frame_words (body_in h.bodies b)) (sym (keeps 14 refl)); place = (let P : ℕ → Type 0 = λ x. HasFrame x (frame_words (body_in h.bodies b)) in subst P (sym (keeps 14 refl)) r.frame.place) };
+      older = r.older;
+      count = e4;
+      callers = laid_now;
+    })
