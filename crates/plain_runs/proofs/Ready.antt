@@ -1,6 +1,6 @@
 -- Nodes that are done in words, and leave their frame in view.
 use Rattle.std.proofs.Common.{◌≡◌, ◌≢◌, ◌⊎◌, ℕ, zero, suc, ◌+◌, ◌-◌, ◌*◌, ◌/◌, ◌%◌, ◌^◌, ◌<◌, ◌≤◌, refl, ◌∙◌, ap, sym, subst, arith, inl, inr, length-append}
-use Rattle.std.specs.Prelude.{Bool, true, false, List, [], ◌∷◌, ◌++◌, length, Option, Some, None, slice_get}
+use Rattle.std.specs.Prelude.{Bool, true, false, List, [], ◌∷◌, ◌++◌, length, Option, Some, None, slice_get, drop}
 use Rattle.std.proofs.lemmas.Option.{slice_get_within}
 use Rattle.self_terms.specs.declared.nodes.Node.{Node}
 use Rattle.self_terms.specs.Depths.{taken, grown, depth, depth_from}
@@ -18,7 +18,7 @@ use Rattle.plain_words.specs.Moves.{IsReady, Does, Moved, pended}
 use Rattle.plain_words.specs.Showing.{viewed}
 use Rattle.plain_words.specs.Units.{References, node_code, nodes_code, entry_code, unit_code, owns_context, frame_locals, frame_words}
 use Rattle.plain_words.proofs.Basics.{at_behind}
-use Rattle.plain_words.proofs.Shown.{pended_shows}
+use Rattle.plain_words.proofs.Shown.{pended_shows, left_shows}
 use Rattle.plain_runs.specs.Host.{Host, descriptor_at, heap_words}
 use Rattle.plain_runs.specs.Units.{words_before, node_offset, HasUnit, IsPoll}
 use Rattle.plain_runs.specs.Sound.{IsHeld, IsRunnable, RunsAt, IsHosted, GoesOn, callers_of}
@@ -57,7 +57,7 @@ pub ready_at : (h : Host) (b n : ℕ) (node : Node) → RunsAt h b n node → h.
     → IsReady h.machine h.machine.pc (frame_words (body_in h.bodies b)) (code_at h b n node)
 ready_at h b n node r left =
     let t = there_at h b n node r.poll r.node_is in
-    record { stands = r.stands; code_region = t.1; code_there = t.0; frame = r.frame.place; left = left }
+    record { stands = r.stands; code_region = t.1; code_there = t.0; frame = r.view.frame.place; left = left }
 
 -- where a machine has gone on to the poll of the next node
 pub next_poll : (h : Host) (b n : ℕ) (node next : Node) (to : MachineState) → (p : IsPoll h h.machine.pc b n) → slice_get (body_in h.bodies b).nodes n ≡ Some node → slice_get (body_in h.bodies b).nodes (n + 1) ≡ Some next
@@ -72,19 +72,19 @@ next_poll h b n node next to p e more unit at =
       address = omega (arith, at, p.address, o, o2);
     }
 
--- what a node that is done leads to: in so many instructions a host that shows the activity so, at the next node's poll
+-- what a node that is done leads to: in so many instructions a host that shows the activity so, at a node's poll
 pub record Follows (h : Host) (b n : ℕ) (next : Node) (now : Thread) : Type 0 where
   pub instructions : ℕ
   pub to : MachineState
   pub goes : Goes instructions h.machine to
   pub on : GoesOn h (with_machine h to) now
-  pub runs : RunsAt (with_machine h to) b (n + 1) next
+  pub runs : RunsAt (with_machine h to) b n next
 
 -- A word is pended.
 pub pended_follows : (h : Host) (b n : ℕ) (node next : Node) (word : ℕ) → (r : RunsAt h b n node) → IsHosted h → AllRun h → Frames (descriptor_at h) (IsHeld h) → h.current < 4 → h.machine.regs 2 < word_at h.machine.memory 0x30000000
     → slice_get (body_in h.bodies b).nodes (n + 1) ≡ Some next → depth (body_in h.bodies b).nodes (n + 1) ≡ depth (body_in h.bodies b).nodes n + 1
     → Does h.machine h.machine.pc (code_at h b n node) (pended h.machine (frame_locals (body_in h.bodies b)) (depth (body_in h.bodies b).nodes n) word)
-    → (let f = viewed h.machine b n (frame_locals (body_in h.bodies b)) (depth (body_in h.bodies b).nodes n) in Follows h b n next (Going (moved_on (word ∷ f.pending) f ∷ callers_of h r.older)))
+    → (let f = viewed h.machine b n (frame_locals (body_in h.bodies b)) (depth (body_in h.bodies b).nodes n) in Follows h b (n + 1) next (Going (moved_on (word ∷ f.pending) f ∷ callers_of h r.view.older)))
 pended_follows h b n node next word r hosted run held low left more deeper d =
     let m = h.machine in
     let x = body_in h.bodies b in
@@ -93,18 +93,46 @@ pended_follows h b n node next word r hosted run held low left more deeper d =
     let to = d.to in
     let mv = d.moved in
     let room = (run b).room n in
-    let shows = pended_shows m to (m.pc + 4 * length (poll ++ code_at h b n node)) ((m.regs 2 + 1) % 2 ^ 32) (frame_words x) locals k word hosted.within r.frame.place (omega (arith, room)) mv in
+    let shows = pended_shows m to (m.pc + 4 * length (poll ++ code_at h b n node)) ((m.regs 2 + 1) % 2 ^ 32) (frame_words x) locals k word hosted.within r.view.frame.place (omega (arith, room)) mv in
     let at = m.regs 14 + pending_offset locals k in
     let c : ChangedInView h b to = record {
       changed = shows.1;
-      high = r.frame.place.1;
-      ends = r.frame.ends;
-      heap = ap heap_words mv.memory_is ∙ heap_stays m.memory at word (omega (arith, r.frame.place.1));
+      high = r.view.frame.place.1;
+      ends = r.view.frame.ends;
+      heap = ap heap_words mv.memory_is ∙ heap_stays m.memory at word (omega (arith, r.view.frame.place.1));
       within = (let P : Words → Type 0 = IsWithin in subst P (sym mv.memory_is) (put_stays_within m.memory at word hosted.within));
     } in
     let stands : StandsAt to to.pc = record { here = refl; next = mv.stands.next ∙ ap (λ z. z + 4) (sym mv.stands.here) } in
     let poll_next = next_poll h b n node next to r.poll r.node_is more (unit_kept h to b r.poll.at (code_same h b to c) r.poll.unit) mv.stands.here in
     let counted : to.regs 2 ≡ m.regs 2 + 1 = mv.counted ∙ omega (arith, left, hosted.goal) in
-    let g = view_goes_on h b n node next to _ r hosted run held low c mv.kept mv.older counted stands poll_next more
+    let g = view_goes_on h b (n + 1) next to _ r.view hosted run held low c mv.kept mv.older counted stands poll_next more
         (ap (λ z. viewed to b (n + 1) locals z) deeper ∙ shows.0 b n (n + 1)) in
+    record { instructions = d.instructions; to = to; goes = d.goes; on = g.0; runs = g.1 }
+
+-- A value is dropped.
+pub dropped_follows : (h : Host) (b n : ℕ) (node next : Node) → (r : RunsAt h b n node) → IsHosted h → AllRun h → Frames (descriptor_at h) (IsHeld h) → h.current < 4 → h.machine.regs 2 < word_at h.machine.memory 0x30000000
+    → slice_get (body_in h.bodies b).nodes (n + 1) ≡ Some next → depth (body_in h.bodies b).nodes n ≡ suc (depth (body_in h.bodies b).nodes (n + 1))
+    → Does h.machine h.machine.pc (code_at h b n node) h.machine.memory
+    → (let f = viewed h.machine b n (frame_locals (body_in h.bodies b)) (depth (body_in h.bodies b).nodes n) in Follows h b (n + 1) next (Going (moved_on (drop 1 f.pending) f ∷ callers_of h r.view.older)))
+dropped_follows h b n node next r hosted run held low left more less d =
+    let m = h.machine in
+    let x = body_in h.bodies b in
+    let locals = frame_locals x in
+    let k = depth x.nodes (n + 1) in
+    let to = d.to in
+    let mv = d.moved in
+    let c : ChangedInView h b to = record {
+      changed = λ a out. ap (λ z. word_at z a) mv.memory_is;
+      high = r.view.frame.place.1;
+      ends = r.view.frame.ends;
+      heap = ap heap_words mv.memory_is;
+      within = (let P : Words → Type 0 = IsWithin in subst P (sym mv.memory_is) hosted.within);
+    } in
+    let stands : StandsAt to to.pc = record { here = refl; next = mv.stands.next ∙ ap (λ z. z + 4) (sym mv.stands.here) } in
+    let poll_next = next_poll h b n node next to r.poll r.node_is more (unit_kept h to b r.poll.at (code_same h b to c) r.poll.unit) mv.stands.here in
+    let counted : to.regs 2 ≡ m.regs 2 + 1 = mv.counted ∙ omega (arith, left, hosted.goal) in
+    let same : (z : ℕ) → z ≡ suc k → record (viewed m b n locals k) { next = n + 1 } ≡ moved_on (drop 1 (viewed m b n locals z).pending) (viewed m b n locals z) =
+        λ z e. (let P : ℕ → Type 0 = λ y. record (viewed m b n locals k) { next = n + 1 } ≡ moved_on (drop 1 (viewed m b n locals y).pending) (viewed m b n locals y) in subst P (sym e) refl) in
+    let g = view_goes_on h b (n + 1) next to _ r.view hosted run held low c mv.kept mv.older counted stands poll_next more
+        (left_shows m to (m.pc + 4 * length (poll ++ code_at h b n node)) ((m.regs 2 + 1) % 2 ^ 32) locals k mv b n (n + 1) ∙ same (depth x.nodes n) less) in
     record { instructions = d.instructions; to = to; goes = d.goes; on = g.0; runs = g.1 }

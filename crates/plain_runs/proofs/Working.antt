@@ -24,7 +24,7 @@ use Rattle.plain_words.specs.Showing.{viewed, ChangedFrom}
 use Rattle.plain_words.proofs.Shown.{pended_shows, moved_window}
 use Rattle.plain_runs.specs.Host.{Host, Status, Waiting, seen, waiting, threads_from, descriptor_at, heap_words, raw_of}
 use Rattle.plain_runs.specs.Units.{HasUnit, IsPoll, IsInPoll, IsBehindCall, node_offset}
-use Rattle.plain_runs.specs.Sound.{IsRoomy, IsCaller, IsHeld, Calls, Polls, IsRunnable, RunsAt, IsHosted, GoesOn, callers_of, entry_frame, ending_stub}
+use Rattle.plain_runs.specs.Sound.{IsRoomy, IsCaller, IsHeld, Calls, Polls, IsRunnable, InFrame, RunsAt, IsHosted, GoesOn, callers_of, entry_frame, ending_stub}
 use Rattle.plain_runs.proofs.Keeping.{with_machine, SameCode, unit_kept, stub_kept, caller_kept, held_kept, threads_set, OthersWait, no_heap}
 use Rattle.plain_runs.proofs.Pointed.{poll_descriptor, call_descriptor, in_poll_descriptor}
 
@@ -201,13 +201,13 @@ seen_as : (d : ℕ → Descriptor) (m : MachineState) (older : ℕ) → m.regs 4
 unfolding activations
 seen_as d m older e = ap (λ n. activations d m.memory n (m.regs 14) (kept m.regs) m.pc m.older) e
 
--- the machine goes on to the next node's poll in its own frame
-pub view_goes_on : (h : Host) (b n : ℕ) (node next : Node) (to : MachineState) (now : Frame) → (r : RunsAt h b n node) → IsHosted h → AllRun h → Frames (descriptor_at h) (IsHeld h) → h.current < 4 → ChangedInView h b to
+-- the machine goes on in its own frame to a node's poll, with a step counted
+pub view_goes_on : (h : Host) (b n : ℕ) (next : Node) (to : MachineState) (now : Frame) → (r : InFrame h b) → IsHosted h → AllRun h → Frames (descriptor_at h) (IsHeld h) → h.current < 4 → ChangedInView h b to
     → ((k : ℕ) → is_scratch k ≡ false → to.regs k ≡ h.machine.regs k) → to.older ≡ h.machine.older → to.regs 2 ≡ h.machine.regs 2 + 1
-    → StandsAt to to.pc → IsPoll (with_machine h to) to.pc b (n + 1) → slice_get (body_in h.bodies b).nodes (n + 1) ≡ Some next
-    → viewed to b (n + 1) (frame_locals (body_in h.bodies b)) (depth (body_in h.bodies b).nodes (n + 1)) ≡ now
-    → GoesOn h (with_machine h to) (Going (now ∷ callers_of h r.older)) × RunsAt (with_machine h to) b (n + 1) next
-view_goes_on h b n node next to now r hosted run held low c keeps held_same counted stands poll next_is shows =
+    → StandsAt to to.pc → IsPoll (with_machine h to) to.pc b n → slice_get (body_in h.bodies b).nodes n ≡ Some next
+    → viewed to b n (frame_locals (body_in h.bodies b)) (depth (body_in h.bodies b).nodes n) ≡ now
+    → GoesOn h (with_machine h to) (Going (now ∷ callers_of h r.older)) × RunsAt (with_machine h to) b n next
+view_goes_on h b n next to now r hosted run held low c keeps held_same counted stands poll next_is shows =
     let m = h.machine in
     let e30 = keeps 30 refl in
     let e31 = keeps 31 refl in
@@ -229,7 +229,7 @@ view_goes_on h b n node next to now r hosted run held low c keeps held_same coun
         ∙ ap (λ x. activations (descriptor_at h) to.memory r.older (m.regs 30) x (m.regs 31 + 8) (but_first m.older)) before
         ∙ cs.0 in
     let top : shown to.memory (kept to.regs) (to.regs 14) (descriptor_at h2 to.pc) ≡ now =
-        ap (shown to.memory (kept to.regs) (to.regs 14)) (poll_descriptor h2 to.pc b (n + 1) next poll next_is) ∙ shows in
+        ap (shown to.memory (kept to.regs) (to.regs 14)) (poll_descriptor h2 to.pc b n next poll next_is) ∙ shows in
     let now_seen : seen h2 ≡ now ∷ older = seen_as (descriptor_at h2) to r.older e4 ∙ ap (λ x. x ∷ activations (descriptor_at h2) to.memory r.older (to.regs 30) (frame_before to.memory (to.regs 30) to.older) (to.regs 31 + 8) (but_first to.older)) top ∙ ap (λ d. now ∷ activations d to.memory r.older (to.regs 30) (frame_before to.memory (to.regs 30) to.older) (to.regs 31 + 8) (but_first to.older)) (same_descriptors h to) ∙ ap (λ xs. now ∷ xs) again in
     let threads : threads_from h2 0 h.statuses ≡ slice_set (threads_from h 0 h.statuses) h.current (Going (now ∷ older)) =
         threads_set h h2 0 h.current h.statuses r.sp r.pc r.known refl (omega arith) r.running others.waits ∙ ap (λ x. slice_set (threads_from h 0 h.statuses) h.current (Going x)) now_seen in
@@ -261,16 +261,17 @@ view_goes_on h b n node next to now r hosted run held low c keeps held_same coun
       };
     },
     record {
-      sp = r.sp;
-      pc = r.pc;
-      known = r.known;
-      running = r.running;
+      view = record {
+        sp = r.sp;
+        pc = r.pc;
+        known = r.known;
+        running = r.running;
+        frame = record { ends = e30 ∙ r.frame.ends ∙ ap (λ x. x + 4 * frame_words (body_in h.bodies b)) (sym (keeps 14 refl)); place = (let P : ℕ → Type 0 = λ x. HasFrame x (frame_words (body_in h.bodies b)) in subst P (sym (keeps 14 refl)) r.frame.place) };
+        older = r.older;
+        count = e4;
+        callers = laid_now;
+      };
       stands = stands;
       poll = poll;
       node_is = next_is;
-      body = record { takes = r.body.takes; room = r.body.room };
-      frame = record { ends = e30 ∙ r.frame.ends ∙ ap (λ x. x + 4 * frame_words (body_in h.bodies b)) (sym (keeps 14 refl)); place = (let P : ℕ → Type 0 = λ x. HasFrame x (frame_words (body_in h.bodies b)) in subst P (sym (keeps 14 refl)) r.frame.place) };
-      older = r.older;
-      count = e4;
-      callers = laid_now;
     })

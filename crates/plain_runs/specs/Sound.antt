@@ -40,20 +40,23 @@ pub record IsRunnable (h : Host) (b : ℕ) : Type 0 where
   pub takes : (n : ℕ) (node : Node) → slice_get (body_in h.bodies b).nodes n ≡ Some node → taken node ≤ depth (body_in h.bodies b).nodes n
   pub room : (n : ℕ) → 28 + frame_locals (body_in h.bodies b) + depth (body_in h.bodies b).nodes n ≤ frame_words (body_in h.bodies b)
 
--- The activity runs: the youngest of its activations is at the poll of a node of a body, with this many values pending, and the others wait.
-pub record RunsAt (h : Host) (b n : ℕ) (node : Node) : Type 0 where
+-- The current activity runs, and the frame in view is that of its youngest activation, of a body; the others wait.
+pub record InFrame (h : Host) (b : ℕ) : Type 0 where
   pub sp : ℕ
   pub pc : ℕ
   pub known : ℕ
   pub running : slice_get h.statuses h.current ≡ Some (Waiting sp pc known)
-  pub stands : StandsAt h.machine h.machine.pc
-  pub poll : IsPoll h h.machine.pc b n
-  pub node_is : slice_get (body_in h.bodies b).nodes n ≡ Some node
-  pub body : IsRunnable h b
   pub frame : IsRoomy h b (h.machine.regs 14) (h.machine.regs 30)
   pub older : ℕ
   pub count : h.machine.regs 4 ≡ suc older
   pub callers : AreLaid (IsCaller h) (entry_frame h.current) ending_stub h.machine.memory older (h.machine.regs 30) (frame_before h.machine.memory (h.machine.regs 30) h.machine.older) (h.machine.regs 31 + 8) (but_first h.machine.older)
+
+-- it is at the poll of a node
+pub record RunsAt (h : Host) (b n : ℕ) (node : Node) : Type 0 where
+  pub view : InFrame h b
+  pub stands : StandsAt h.machine h.machine.pc
+  pub poll : IsPoll h h.machine.pc b n
+  pub node_is : slice_get (body_in h.bodies b).nodes n ≡ Some node
 
 -- a frame of an activity that waits: the youngest is in a poll, and the others wait for an answer
 pub data IsHeld (h : Host) (pc sp fp : ℕ) : Type 0 where
