@@ -1,6 +1,6 @@
 -- A node that is done in words.
 use Rattle.std.proofs.Common.{◌≡◌, ◌≢◌, ◌⊎◌, ℕ, zero, suc, ◌+◌, ◌-◌, ◌*◌, ◌/◌, ◌%◌, ◌^◌, ◌<◌, ◌≤◌, refl, ◌∙◌, ap, sym, subst, arith, inl, inr}
-use Rattle.std.specs.Prelude.{Bool, true, false, if◌then◌else◌, nat_lt, List, [], ◌∷◌, ◌++◌, length, map, Option, Some, None, slice_get, slice_set}
+use Rattle.std.specs.Prelude.{Bool, true, false, if◌then◌else◌, nat_lt, List, [], ◌∷◌, ◌++◌, length, map, Option, Some, None, slice_get, slice_set, All}
 use Rattle.std.proofs.lemmas.Grind.{common_steps}
 use Rattle.std.proofs.lemmas.Option.{slice_get_within}
 use Rattle.std.proofs.lemmas.Bool.{cases_lt}
@@ -24,7 +24,7 @@ use Rattle.plain_words.specs.Showing.{viewed, ChangedFrom}
 use Rattle.plain_words.proofs.Shown.{pended_shows, moved_window}
 use Rattle.plain_runs.specs.Host.{Host, Status, Waiting, seen, waiting, threads_from, descriptor_at, heap_words, raw_of}
 use Rattle.plain_runs.specs.Units.{HasUnit, IsPoll, IsInPoll, IsBehindCall, node_offset}
-use Rattle.plain_runs.specs.Sound.{IsRoomy, IsCaller, IsHeld, Calls, Polls, IsRunnable, InFrame, RunsAt, IsHosted, GoesOn, callers_of, entry_frame, ending_stub}
+use Rattle.plain_runs.specs.Sound.{IsWindow, IsRoomy, IsCaller, IsHeld, Calls, Polls, IsRunnable, InFrame, RunsAt, IsHosted, GoesOn, callers_of, entry_frame, ending_stub}
 use Rattle.plain_runs.proofs.Keeping.{with_machine, SameCode, unit_kept, stub_kept, caller_kept, held_kept, threads_set, OthersWait, no_heap}
 use Rattle.plain_runs.proofs.Pointed.{poll_descriptor, call_descriptor, in_poll_descriptor}
 
@@ -201,13 +201,18 @@ seen_as : (d : ℕ → Descriptor) (m : MachineState) (older : ℕ) → m.regs 4
 unfolding activations
 seen_as d m older e = ap (λ n. activations d m.memory n (m.regs 14) (kept m.regs) m.pc m.older) e
 
--- the machine goes on in its own frame to a node's poll, with a step counted
-pub view_goes_on : (h : Host) (b n : ℕ) (next : Node) (to : MachineState) (now : Frame) → (r : InFrame h b) → IsHosted h → AllRun h → Frames (descriptor_at h) (IsHeld h) → h.current < 4 → ChangedInView h b to
-    → ((k : ℕ) → is_scratch k ≡ false → to.regs k ≡ h.machine.regs k) → to.older ≡ h.machine.older → to.regs 2 ≡ h.machine.regs 2 + 1
+-- the machine goes on in its own frame to a node's poll
+pub record ViewOn (h : Host) (to : MachineState) (b n : ℕ) (next : Node) (now : Frame) (older : ℕ) : Type 0 where
+  pub hosted : IsHosted (with_machine h to)
+  pub runs : RunsAt (with_machine h to) b n next
+  pub threads : threads_from (with_machine h to) 0 h.statuses ≡ slice_set (threads_from h 0 h.statuses) h.current (Going (now ∷ callers_of h older))
+
+pub view_on : (h : Host) (b n : ℕ) (next : Node) (to : MachineState) (now : Frame) → (r : InFrame h b) → IsHosted h → AllRun h → Frames (descriptor_at h) (IsHeld h) → h.current < 4 → ChangedInView h b to
+    → ((k : ℕ) → is_scratch k ≡ false → to.regs k ≡ h.machine.regs k) → to.older ≡ h.machine.older
     → StandsAt to to.pc → IsPoll (with_machine h to) to.pc b n → slice_get (body_in h.bodies b).nodes n ≡ Some next
     → viewed to b n (frame_locals (body_in h.bodies b)) (depth (body_in h.bodies b).nodes n) ≡ now
-    → GoesOn h (with_machine h to) (Going (now ∷ callers_of h r.older)) × RunsAt (with_machine h to) b n next
-view_goes_on h b n next to now r hosted run held low c keeps held_same counted stands poll next_is shows =
+    → ViewOn h to b n next now r.older
+view_on h b n next to now r hosted run held low c keeps held_same stands poll next_is shows =
     let m = h.machine in
     let e30 = keeps 30 refl in
     let e31 = keeps 31 refl in
@@ -240,38 +245,48 @@ view_goes_on h b n next to now r hosted run held low c keeps held_same counted s
         (subst (λ y. Q (m.regs 30) y (frame_before to.memory (m.regs 30) to.older) (but_first to.older)) (sym e31)
         (subst (λ x. Q (m.regs 30) (m.regs 31) (frame_before to.memory (m.regs 30) x) (but_first x)) (sym held_same)
         (subst (λ x. Q (m.regs 30) (m.regs 31) x (but_first m.older)) (sym before) cs.1))) in
-    (record {
+    record {
       hosted = record {
         within = c.within;
         register_0 = keeps 0 refl ∙ hosted.register_0;
+        windows = (let P : List (ℕ → ℕ) → Type 0 = λ x. All IsWindow x in subst P (sym held_same) hosted.windows);
         units = λ u at given is stands. unit_kept h to u at code (hosted.units u at given is stands);
         stub = stub_kept (Trap 9 ∷ []) h to ending_stub code (omega arith) hosted.stub;
         activities = hosted.activities;
         others = others.laid;
         goal = omega (arith, c.changed 0x30000000 (inl (omega (arith, c.high))), hosted.goal);
       };
-      raw = λ i. record {
-        maps = h.maps;
-        mem = c.heap i;
-        heap = record { top = keeps 6 refl i; next = h.next };
-        threads = threads i;
-        current = h.current;
-        steps = (let e : h.steps + to.regs 2 ≡ h.steps + m.regs 2 + 1 = omega (arith, counted) in e) i;
-        cost = ap (λ x. h.cost + x) (keeps 3 refl) i;
+      runs = record {
+        view = record {
+          sp = r.sp;
+          pc = r.pc;
+          known = r.known;
+          running = r.running;
+          frame = record { ends = e30 ∙ r.frame.ends ∙ ap (λ x. x + 4 * frame_words (body_in h.bodies b)) (sym (keeps 14 refl)); place = (let P : ℕ → Type 0 = λ x. HasFrame x (frame_words (body_in h.bodies b)) in subst P (sym (keeps 14 refl)) r.frame.place) };
+          older = r.older;
+          count = e4;
+          few = r.few;
+          callers = laid_now;
+        };
+        stands = stands;
+        poll = poll;
+        node_is = next_is;
       };
-    },
-    record {
-      view = record {
-        sp = r.sp;
-        pc = r.pc;
-        known = r.known;
-        running = r.running;
-        frame = record { ends = e30 ∙ r.frame.ends ∙ ap (λ x. x + 4 * frame_words (body_in h.bodies b)) (sym (keeps 14 refl)); place = (let P : ℕ → Type 0 = λ x. HasFrame x (frame_words (body_in h.bodies b)) in subst P (sym (keeps 14 refl)) r.frame.place) };
-        older = r.older;
-        count = e4;
-        callers = laid_now;
-      };
-      stands = stands;
-      poll = poll;
-      node_is = next_is;
-    })
+      threads = threads;
+    }
+
+pub view_goes_on : (h : Host) (b n : ℕ) (next : Node) (to : MachineState) (now : Frame) (older : ℕ) → ViewOn h to b n next now older → heap_words to.memory ≡ heap_words h.machine.memory
+    → to.regs 2 ≡ h.machine.regs 2 + 1 → to.regs 3 ≡ h.machine.regs 3 → to.regs 6 ≡ h.machine.regs 6
+    → GoesOn h (with_machine h to) (Going (now ∷ callers_of h older))
+view_goes_on h b n next to now older v heap counted cost top = record {
+  hosted = v.hosted;
+  raw = λ i. record {
+    maps = h.maps;
+    mem = heap i;
+    heap = record { top = top i; next = h.next };
+    threads = v.threads i;
+    current = h.current;
+    steps = (let e : h.steps + to.regs 2 ≡ h.steps + h.machine.regs 2 + 1 = omega (arith, counted) in e) i;
+    cost = ap (λ x. h.cost + x) cost i;
+  };
+}

@@ -1,8 +1,9 @@
 -- What holds of a machine and its host wherever plain code runs.
-use Rattle.std.specs.Prelude.{◌≡◌, ◌≢◌, ◌⊎◌, ℕ, zero, suc, ◌+◌, ◌-◌, ◌*◌, ◌/◌, ◌%◌, ◌<◌, ◌≤◌, List, [], ◌∷◌, length, Some, slice_get}
+use Rattle.std.specs.Prelude.{◌≡◌, ◌≢◌, ◌⊎◌, ℕ, zero, suc, ◌+◌, ◌-◌, ◌*◌, ◌/◌, ◌%◌, ◌<◌, ◌≤◌, List, [], ◌∷◌, length, Some, slice_get, All}
 use Rattle.self_terms.specs.declared.nodes.Node.{Node}
 use Rattle.sparc_insn.specs.declared.insn.Insn.TheVariants.{Trap}
 use Rattle.sparc_store.specs.Words.{Words, word_at, HasFrame, IsWithin}
+use Rattle.sparc_store.specs.Chain.{IsFrame}
 use Rattle.sparc_store.specs.Windows.{kept, saved_at, frame_before, but_first}
 use Rattle.sparc_machine.specs.State.{MachineState}
 use Rattle.source_model.specs.Soundness.{body_in}
@@ -14,6 +15,10 @@ use Rattle.plain_words.specs.Going.{At, StandsAt}
 use Rattle.plain_words.specs.Units.{frame_words, frame_locals}
 use Rattle.plain_runs.specs.Host.{Host, Status, Waiting, seen, descriptor_at, raw_of}
 use Rattle.plain_runs.specs.Units.{HasUnit, IsPoll, IsInPoll, IsBehindCall}
+
+-- a window has nothing from number 16 on
+abbrev pub IsWindow : (ℕ → ℕ) → Type 0
+IsWindow = IsFrame
 
 -- where the oldest activation of an activity returns to, and where its stack's frame of entry begins
 abbrev pub ending_stub : ℕ
@@ -49,6 +54,7 @@ pub record InFrame (h : Host) (b : ℕ) : Type 0 where
   pub frame : IsRoomy h b (h.machine.regs 14) (h.machine.regs 30)
   pub older : ℕ
   pub count : h.machine.regs 4 ≡ suc older
+  pub few : older < 4096
   pub callers : AreLaid (IsCaller h) (entry_frame h.current) ending_stub h.machine.memory older (h.machine.regs 30) (frame_before h.machine.memory (h.machine.regs 30) h.machine.older) (h.machine.regs 31 + 8) (but_first h.machine.older)
 
 -- it is at the poll of a node
@@ -68,6 +74,7 @@ pub data IsHeld (h : Host) (pc sp fp : ℕ) : Type 0 where
 pub record IsHosted (h : Host) : Type 0 where
   pub within : IsWithin h.machine.memory
   pub register_0 : h.machine.regs 0 ≡ 0
+  pub windows : All IsWindow h.machine.older
   pub units : (b at : ℕ) → 0 < b → slice_get h.entries (b - 1) ≡ Some at → at ≢ 0 → HasUnit h b at
   pub stub : At h.machine.memory ending_stub (Trap 9 ∷ [])
   pub activities : length h.statuses ≤ 4
