@@ -3,3 +3,4 @@ pub mod Pointed
 pub mod Keeping
 pub mod Working
 pub mod Ready
+pub mod Popping
