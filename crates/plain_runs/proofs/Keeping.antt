@@ -58,7 +58,7 @@ pub held_kept : (h : Host) (m : MachineState) (pc sp fp : ℕ) → SameCode h.ma
 held_kept h m pc sp fp same (Calls c) = Calls (caller_kept h m pc sp fp same c)
 held_kept h m pc sp fp same (Polls b n p run room) =
     Polls b n (record { at = p.at; word = p.word; unit = unit_kept h m b p.at same p.unit; inside = p.inside; within = p.within; address = p.address })
-    (record { takes = run.takes; room = run.room }) (record { ends = room.ends; place = room.place })
+    (record { takes = run.takes; room = run.room; ends = run.ends }) (record { ends = room.ends; place = room.place })
 
 -- Threads.
 

@@ -81,11 +81,11 @@ pub record Follows (h : Host) (b n : ℕ) (next : Node) (now : Thread) : Type 0 
   pub runs : RunsAt (with_machine h to) b n next
 
 -- A word is pended.
-pub pended_follows : (h : Host) (b n : ℕ) (node next : Node) (word : ℕ) → (r : RunsAt h b n node) → IsHosted h → AllRun h → Frames (descriptor_at h) (IsHeld h) → h.current < 4 → h.machine.regs 2 < word_at h.machine.memory 0x30000000
+pub pended_follows : (h : Host) (b n : ℕ) (node next : Node) (word : ℕ) → (r : RunsAt h b n node) → IsHosted h → AllRun h → h.current < 4 → h.machine.regs 2 < word_at h.machine.memory 0x30000000
     → slice_get (body_in h.bodies b).nodes (n + 1) ≡ Some next → depth (body_in h.bodies b).nodes (n + 1) ≡ depth (body_in h.bodies b).nodes n + 1
     → Does h.machine h.machine.pc (code_at h b n node) (pended h.machine (frame_locals (body_in h.bodies b)) (depth (body_in h.bodies b).nodes n) word)
     → (let f = viewed h.machine b n (frame_locals (body_in h.bodies b)) (depth (body_in h.bodies b).nodes n) in Follows h b (n + 1) next (Going (moved_on (word ∷ f.pending) f ∷ callers_of h r.view.older)))
-pended_follows h b n node next word r hosted run held low left more deeper d =
+pended_follows h b n node next word r hosted run low left more deeper d =
     let m = h.machine in
     let x = body_in h.bodies b in
     let locals = frame_locals x in
@@ -105,16 +105,16 @@ pended_follows h b n node next word r hosted run held low left more deeper d =
     let stands : StandsAt to to.pc = record { here = refl; next = mv.stands.next ∙ ap (λ z. z + 4) (sym mv.stands.here) } in
     let poll_next = next_poll h b n node next to r.poll r.node_is more (unit_kept h to b r.poll.at (code_same h b to c) r.poll.unit) mv.stands.here in
     let counted : to.regs 2 ≡ m.regs 2 + 1 = mv.counted ∙ omega (arith, left, hosted.goal) in
-    let v = view_on h b (n + 1) next to _ r.view hosted run held low c mv.kept mv.older stands poll_next more
+    let v = view_on h b (n + 1) next to _ r.view hosted run low c mv.kept mv.older stands poll_next more
         (ap (λ z. viewed to b (n + 1) locals z) deeper ∙ shows.0 b n (n + 1)) in
     record { instructions = d.instructions; to = to; goes = d.goes; on = view_goes_on h b (n + 1) next to _ r.view.older v c.heap counted (mv.kept 3 refl) (mv.kept 6 refl); runs = v.runs }
 
 -- A value is dropped.
-pub dropped_follows : (h : Host) (b n : ℕ) (node next : Node) → (r : RunsAt h b n node) → IsHosted h → AllRun h → Frames (descriptor_at h) (IsHeld h) → h.current < 4 → h.machine.regs 2 < word_at h.machine.memory 0x30000000
+pub dropped_follows : (h : Host) (b n : ℕ) (node next : Node) → (r : RunsAt h b n node) → IsHosted h → AllRun h → h.current < 4 → h.machine.regs 2 < word_at h.machine.memory 0x30000000
     → slice_get (body_in h.bodies b).nodes (n + 1) ≡ Some next → depth (body_in h.bodies b).nodes n ≡ suc (depth (body_in h.bodies b).nodes (n + 1))
     → Does h.machine h.machine.pc (code_at h b n node) h.machine.memory
     → (let f = viewed h.machine b n (frame_locals (body_in h.bodies b)) (depth (body_in h.bodies b).nodes n) in Follows h b (n + 1) next (Going (moved_on (drop 1 f.pending) f ∷ callers_of h r.view.older)))
-dropped_follows h b n node next r hosted run held low left more less d =
+dropped_follows h b n node next r hosted run low left more less d =
     let m = h.machine in
     let x = body_in h.bodies b in
     let locals = frame_locals x in
@@ -133,6 +133,6 @@ dropped_follows h b n node next r hosted run held low left more less d =
     let counted : to.regs 2 ≡ m.regs 2 + 1 = mv.counted ∙ omega (arith, left, hosted.goal) in
     let same : (z : ℕ) → z ≡ suc k → record (viewed m b n locals k) { next = n + 1 } ≡ moved_on (drop 1 (viewed m b n locals z).pending) (viewed m b n locals z) =
         λ z e. (let P : ℕ → Type 0 = λ y. record (viewed m b n locals k) { next = n + 1 } ≡ moved_on (drop 1 (viewed m b n locals y).pending) (viewed m b n locals y) in subst P (sym e) refl) in
-    let v = view_on h b (n + 1) next to _ r.view hosted run held low c mv.kept mv.older stands poll_next more
+    let v = view_on h b (n + 1) next to _ r.view hosted run low c mv.kept mv.older stands poll_next more
         (left_shows m to (m.pc + 4 * length (poll ++ code_at h b n node)) ((m.regs 2 + 1) % 2 ^ 32) locals k mv b n (n + 1) ∙ same (depth x.nodes n) less) in
     record { instructions = d.instructions; to = to; goes = d.goes; on = view_goes_on h b (n + 1) next to _ r.view.older v c.heap counted (mv.kept 3 refl) (mv.kept 6 refl); runs = v.runs }

@@ -118,15 +118,23 @@ callers_have_room h run pc sp fp c =
     fits_frame h pc b n (k - taken node) sp fp (plain_descriptor b n locals (k - taken node)) (call_descriptor h pc b n node c.call)
     (plain_fits (frame_words (body_in h.bodies b)) b n locals (k - taken node) (omega (arith, r))) (omega (arith, r)) c.room
 
-pub held_have_room : (h : Host) → AllRun h → ((b n pc : ℕ) → IsInPoll h pc b n → (node : Node) × (slice_get (body_in h.bodies b).nodes n ≡ Some node)) → Frames (descriptor_at h) (IsHeld h)
-held_have_room h run there pc sp fp (Calls c) = callers_have_room h run pc sp fp c
-held_have_room h run there pc sp fp (Polls b n p r room) =
-    let x = there b n pc p in
+some_node : (nodes : List Node) (n : ℕ) → n < length nodes → (node : Node) × (slice_get nodes n ≡ Some node)
+some_node [] n h = absurd (omega (arith, h))
+some_node (x ∷ xs) zero h = (x, refl)
+some_node (x ∷ xs) (suc n) h = some_node xs n (omega (arith, h))
+
+pub held_have_room : (h : Host) → AllRun h → Frames (descriptor_at h) (IsHeld h)
+held_have_room h run pc sp fp (Calls c) = callers_have_room h run pc sp fp c
+held_have_room h run pc sp fp (Polls b n p r room) =
+    let x = some_node (body_in h.bodies b).nodes n p.inside in
     let locals = frame_locals (body_in h.bodies b) in
     let k = depth (body_in h.bodies b).nodes n in
     let g = (run b).room n in
     fits_frame h pc b n k sp fp (plain_descriptor b n locals k) (in_poll_descriptor h pc b n x.0 p x.1)
     (plain_fits (frame_words (body_in h.bodies b)) b n locals k (omega (arith, g))) (omega (arith, g)) room
+
+pub run_kept : (h : Host) (to : MachineState) → AllRun h → AllRun (with_machine h to)
+run_kept h to run b = record { takes = (run b).takes; room = (run b).room; ends = (run b).ends }
 
 -- Stacks.
 
@@ -207,12 +215,12 @@ pub record ViewOn (h : Host) (to : MachineState) (b n : ℕ) (next : Node) (now 
   pub runs : RunsAt (with_machine h to) b n next
   pub threads : threads_from (with_machine h to) 0 h.statuses ≡ slice_set (threads_from h 0 h.statuses) h.current (Going (now ∷ callers_of h older))
 
-pub view_on : (h : Host) (b n : ℕ) (next : Node) (to : MachineState) (now : Frame) → (r : InFrame h b) → IsHosted h → AllRun h → Frames (descriptor_at h) (IsHeld h) → h.current < 4 → ChangedInView h b to
+pub view_on : (h : Host) (b n : ℕ) (next : Node) (to : MachineState) (now : Frame) → (r : InFrame h b) → IsHosted h → AllRun h → h.current < 4 → ChangedInView h b to
     → ((k : ℕ) → is_scratch k ≡ false → to.regs k ≡ h.machine.regs k) → to.older ≡ h.machine.older
     → StandsAt to to.pc → IsPoll (with_machine h to) to.pc b n → slice_get (body_in h.bodies b).nodes n ≡ Some next
     → viewed to b n (frame_locals (body_in h.bodies b)) (depth (body_in h.bodies b).nodes n) ≡ now
     → ViewOn h to b n next now r.older
-view_on h b n next to now r hosted run held low c keeps held_same stands poll next_is shows =
+view_on h b n next to now r hosted run low c keeps held_same stands poll next_is shows =
     let m = h.machine in
     let e30 = keeps 30 refl in
     let e31 = keeps 31 refl in
@@ -221,7 +229,7 @@ view_on h b n next to now r hosted run held low c keeps held_same stands poll ne
     let stack = one_stack (m.regs 14) (frame_words (body_in h.bodies b)) (m.regs 30) r.frame.place.3 r.frame.ends
         ∙ same_stack (descriptor_at h) (IsCaller h) (entry_frame h.current) ending_stub m.memory r.older (m.regs 30) (frame_before m.memory (m.regs 30) m.older) (m.regs 31 + 8) (but_first m.older) frames laid in
     let below = ends_below (descriptor_at h) (IsCaller h) (entry_frame h.current) ending_stub m.memory r.older (m.regs 30) (frame_before m.memory (m.regs 30) m.older) (m.regs 31 + 8) (but_first m.older) frames laid in
-    let others = others_stay h b to hosted held c low stack below in
+    let others = others_stay h b to hosted (held_have_room h run) c low stack below in
     let cs = callers_stay h b to r.older (m.regs 30) (m.regs 31 + 8) (frame_before m.memory (m.regs 30) m.older) (but_first m.older) frames c refl laid in
     let before = before_same m.memory to.memory (m.regs 30) m.older (λ a from end. c.changed a (inr (omega (arith, c.ends)))) in
     let h2 = with_machine h to in

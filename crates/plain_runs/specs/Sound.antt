@@ -1,5 +1,5 @@
 -- What holds of a machine and its host wherever plain code runs.
-use Rattle.std.specs.Prelude.{◌≡◌, ◌≢◌, ◌⊎◌, ℕ, zero, suc, ◌+◌, ◌-◌, ◌*◌, ◌/◌, ◌%◌, ◌<◌, ◌≤◌, List, [], ◌∷◌, length, Some, slice_get, All}
+use Rattle.std.specs.Prelude.{◌≡◌, ◌≢◌, ◌⊎◌, ℕ, zero, suc, ◌+◌, ◌-◌, ◌*◌, ◌/◌, ◌%◌, ◌<◌, ◌≤◌, List, [], ◌∷◌, length, Some, slice_get, All, true}
 use Rattle.self_terms.specs.declared.nodes.Node.{Node}
 use Rattle.sparc_insn.specs.declared.insn.Insn.TheVariants.{Trap}
 use Rattle.sparc_store.specs.Words.{Words, word_at, HasFrame, IsWithin}
@@ -10,7 +10,7 @@ use Rattle.source_model.specs.Soundness.{body_in}
 use Rattle.frame_walk.specs.Places.{Frame}
 use Rattle.frame_walk.specs.Raw.{Thread, Going, becomes}
 use Rattle.frame_walk.specs.Walk.{activations, AreLaid}
-use Rattle.self_terms.specs.Depths.{taken, depth}
+use Rattle.self_terms.specs.Depths.{taken, depth, is_inner}
 use Rattle.plain_words.specs.Going.{At, StandsAt}
 use Rattle.plain_words.specs.Units.{frame_words, frame_locals}
 use Rattle.plain_runs.specs.Host.{Host, Status, Waiting, seen, descriptor_at, raw_of}
@@ -40,10 +40,11 @@ pub record IsCaller (h : Host) (pc sp fp : ℕ) : Type 0 where
   pub call : IsBehindCall h pc body number node
   pub room : IsRoomy h body sp fp
 
--- A body that plain code runs: no more values are pending than its frames have room for, and each node takes some of those that are there.
+-- A body that plain code runs: each node takes values that are there, and all but those that end it have one behind them.
 pub record IsRunnable (h : Host) (b : ℕ) : Type 0 where
   pub takes : (n : ℕ) (node : Node) → slice_get (body_in h.bodies b).nodes n ≡ Some node → taken node ≤ depth (body_in h.bodies b).nodes n
   pub room : (n : ℕ) → 28 + frame_locals (body_in h.bodies b) + depth (body_in h.bodies b).nodes n ≤ frame_words (body_in h.bodies b)
+  pub ends : (n : ℕ) (node : Node) → slice_get (body_in h.bodies b).nodes n ≡ Some node → is_inner node ≡ true → (next : Node) × (slice_get (body_in h.bodies b).nodes (n + 1) ≡ Some next)
 
 -- The current activity runs, and the frame in view is that of its youngest activation, of a body; the others wait.
 pub record InFrame (h : Host) (b : ℕ) : Type 0 where

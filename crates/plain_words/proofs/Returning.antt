@@ -17,7 +17,7 @@ use Rattle.frame_walk.specs.Places.{pending_offset}
 use Rattle.plain_words.specs.Code.{poll, take, count, ended_context, return_code}
 use Rattle.plain_words.specs.Moves.{IsReady, Ends, Returned, CanReturn, HasContext, IsContext, unmarked}
 use Rattle.plain_words.proofs.Basics.{goes_then, goes_on, goes_none, on, stepped, at_front, at_behind, stands_as, other_register, unwrapped}
-use Rattle.plain_words.proofs.Straight.{straight, all_straight, CanAll, goes_straight, code_stays}
+use Rattle.plain_words.proofs.Straight.{straight, zero_takes, all_straight, CanAll, goes_straight, code_stays}
 use Rattle.plain_words.proofs.Placing.{placed}
 use Rattle.plain_words.proofs.Polls.{polled, poll_goes}
 use Rattle.plain_words.proofs.Reading.{context_word}
@@ -72,9 +72,9 @@ leaves t p s a at can =
     (goes_none _))
 
 returned : (m t : MachineState) (memory : Words) (answer : ℕ) → CanReturn t → t.memory ≡ memory → t.regs 24 ≡ answer → t.regs 2 ≡ (m.regs 2 + 1) % 2 ^ 32 → t.regs 4 ≡ sub (m.regs 4) 1
-    → t.regs 3 ≡ m.regs 3 → t.regs 6 ≡ m.regs 6 → t.regs 30 ≡ m.regs 30 → t.regs 31 ≡ m.regs 31 → t.older ≡ m.older
+    → t.regs 3 ≡ m.regs 3 → t.regs 6 ≡ m.regs 6 → t.regs 30 ≡ m.regs 30 → t.regs 31 ≡ m.regs 31 → t.older ≡ m.older → t.regs 0 ≡ m.regs 0
     → Returned m (effect (Three ops.Restore 0 0 (Reg 0)) (effect (Three ops.Jmpl 0 31 (Imm (pos 8))) t)) memory answer
-returned m t memory answer can e e24 e2 e4 e3 e6 e30 e31 eo =
+returned m t memory answer can e e24 e2 e4 e3 e6 e30 e31 eo e0 =
     let x = effect (Three ops.Jmpl 0 31 (Imm (pos 8))) t in
     let w = add (x.regs 0) (x.regs 0) in
     let g = older_regs x.older x in
@@ -90,6 +90,7 @@ returned m t memory answer can e e24 e2 e4 e3 e6 e30 e31 eo =
       activations = ap (λ z. with_reg z 0 w 4) g ∙ e4;
       cost = ap (λ z. with_reg z 0 w 3) g ∙ e3;
       top = ap (λ z. with_reg z 0 w 6) g ∙ e6;
+      register_0 = ap (λ z. with_reg z 0 w 0) g ∙ zero_takes t.regs t.pc 0 ∙ e0;
       frame = ap (λ z. with_reg z 0 w 14) g ∙ e30;
       view = λ k h. ap (λ z. with_reg z 0 w (16 + k)) g ∙ in_view x.regs (frame_before x.memory (x.regs 30) x.older) w k h
         ∙ ap (λ z. frame_before z (t.regs 30) t.older k) e ∙ ap (λ z. frame_before memory z t.older k) e30 ∙ ap (λ z. frame_before memory (m.regs 30) z k) eo;
@@ -138,7 +139,7 @@ return_does m p words false locals k r room h can =
       instructions = 5 + length (ending false locals k) + 2;
       to = _;
       goes = ended m p words false locals k r refl (d.has, (tt, (tt, tt))) leave;
-      returned = returned m t (unmarked m false) _ leave refl (ap (word_at m.memory) d.address) refl refl refl refl refl refl refl;
+      returned = returned m t (unmarked m false) _ leave refl (ap (word_at m.memory) d.address) refl refl refl refl refl refl refl refl;
     }
 return_does m p words true locals k r room h can =
     let d = placed (m.regs 14) words (pending_offset locals k) r.frame (omega arith) (omega arith) in
@@ -149,5 +150,5 @@ return_does m p words true locals k r room h can =
       instructions = 5 + length (ending true locals k) + 2;
       to = _;
       goes = ended m p words true locals k r refl (d.has, (tt, (tt, ((w.1, w.2), tt)))) leave;
-      returned = returned m t (unmarked m true) _ leave (ap (λ z. with_word m.memory z (t.regs 0)) w.0 ∙ ap (with_word m.memory (m.regs 17 + 7)) (zero_stays m)) (ap (word_at m.memory) d.address) refl refl refl refl refl refl refl;
+      returned = returned m t (unmarked m true) _ leave (ap (λ z. with_word m.memory z (t.regs 0)) w.0 ∙ ap (with_word m.memory (m.regs 17 + 7)) (zero_stays m)) (ap (word_at m.memory) d.address) refl refl refl refl refl refl refl refl;
     }

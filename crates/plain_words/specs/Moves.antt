@@ -98,6 +98,7 @@ pub record Returned (m to : MachineState) (memory : Words) (answer : ℕ) : Type
   pub activations : to.regs 4 ≡ sub (m.regs 4) 1
   pub cost : to.regs 3 ≡ m.regs 3
   pub top : to.regs 6 ≡ m.regs 6
+  pub register_0 : to.regs 0 ≡ m.regs 0
   pub frame : to.regs 14 ≡ m.regs 30
   pub view : (k : ℕ) → k < 16 → to.regs (16 + k) ≡ frame_before memory (m.regs 30) m.older k
   pub older : to.older ≡ but_first m.older
