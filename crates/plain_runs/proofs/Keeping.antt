@@ -16,12 +16,10 @@ use Rattle.frame_walk.proofs.Resting.{rests, laid_as}
 use Rattle.plain_words.specs.Going.{At, IsCodeFrom}
 use Rattle.source_model.specs.Soundness.{body_in}
 use Rattle.plain_words.specs.Units.{unit_code}
+use Rattle.plain_runs.specs.Course.{with_machine}
 use Rattle.plain_runs.specs.Host.{Host, Status, Waiting, Answered, Failed, seen, waiting, thread_of, threads_from, descriptor_at, heap_words}
 use Rattle.plain_runs.specs.Units.{HasUnit, IsPoll, IsInPoll, IsBehindCall}
 use Rattle.plain_runs.specs.Sound.{IsRoomy, IsCaller, IsHeld, Calls, Polls, IsRunnable}
-
-abbrev pub with_machine : Host → MachineState → Host
-with_machine h m = record h { machine = m }
 
 -- nothing below the heap is changed
 abbrev pub SameCode : Words → Words → Type 0

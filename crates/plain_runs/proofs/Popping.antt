@@ -28,14 +28,15 @@ use Rattle.plain_words.proofs.Basics.{at_behind, goes_then}
 use Rattle.plain_words.proofs.Straight.{straight, goes_straight, straight_spares, straight_older}
 use Rattle.plain_words.proofs.Placing.{placed}
 use Rattle.plain_words.proofs.Shown.{pended_shows, moved_window}
+use Rattle.plain_runs.specs.Course.{with_machine, AllRun, AnswersCaller, CanGo, AnswerFollows}
 use Rattle.plain_runs.specs.Host.{Host, Status, Waiting, seen, waiting, threads_from, descriptor_at, heap_words}
 use Rattle.plain_runs.specs.Units.{words_before, node_offset, HasUnit, IsPoll, IsBehindCall}
 use Rattle.plain_runs.specs.Sound.{IsWindow, IsRoomy, IsCaller, IsHeld, IsRunnable, InFrame, RunsAt, IsHosted, GoesOn, callers_of, entry_frame, ending_stub}
 use Rattle.plain_runs.proofs.Located.{nodes_at, some_is}
 use Rattle.plain_runs.proofs.Pointed.{next_offset, call_descriptor}
-use Rattle.plain_runs.proofs.Keeping.{with_machine, unit_kept, stub_kept, caller_kept, held_kept, threads_set, OthersWait}
-use Rattle.plain_runs.proofs.Working.{AllRun, run_kept, ChangedInView, code_same, heap_stays, same_descriptors, view_on, ViewOn}
-use Rattle.plain_runs.proofs.Ready.{code_at, there_at}
+use Rattle.plain_runs.proofs.Keeping.{unit_kept, stub_kept, caller_kept, held_kept, threads_set, OthersWait}
+use Rattle.plain_runs.proofs.Working.{run_kept, ChangedInView, code_same, heap_stays, same_descriptors, view_on, ViewOn}
+use Rattle.plain_runs.proofs.Ready.{there_at}
 
 -- Memory that didn't change at all.
 
@@ -158,17 +159,6 @@ by_low regs w k false e low high = sym (high k (is_higher k e))
 
 window_in_view : (regs w : ℕ → ℕ) → ((j : ℕ) → j < 16 → regs (16 + j) ≡ w j) → ((j : ℕ) → 16 ≤ j → w j ≡ 0) → kept regs ≡ w
 window_in_view regs w low high = λ i k. by_low regs w k (nat_lt k 16) refl low high i
-
--- The answer goes to the caller, which moves on.
-pub record AnswersCaller (h : Host) (older answer : ℕ) : Type 0 where
-  pub instructions : ℕ
-  pub to : MachineState
-  pub goes : Goes instructions h.machine to
-  pub on : GoesOn h (with_machine h to) (answered_to (callers_of h older) answer)
-  pub body : ℕ
-  pub number : ℕ
-  pub next : Node
-  pub runs : RunsAt (with_machine h to) body number next
 
 depth_is : (nodes : List Node) (n : ℕ) → depth nodes n ≡ depth_from 0 nodes n
 unfolding depth
@@ -319,3 +309,6 @@ answer_follows h b o answer r hosted run low left deep e =
       next = more.0;
       runs = v.runs;
     }
+
+pub answer_follow : AnswerFollows
+answer_follow h b o answer r c deep e = answer_follows h b o answer r c.hosted c.runs c.current c.left deep e

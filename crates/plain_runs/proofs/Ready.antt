@@ -19,19 +19,14 @@ use Rattle.plain_words.specs.Showing.{viewed}
 use Rattle.plain_words.specs.Units.{References, node_code, nodes_code, entry_code, unit_code, owns_context, frame_locals, frame_words}
 use Rattle.plain_words.proofs.Basics.{at_behind}
 use Rattle.plain_words.proofs.Shown.{pended_shows, left_shows}
+use Rattle.plain_runs.specs.Course.{with_machine, AllRun, code_at, Follows, CanGo, PendedFollows, DroppedFollows}
 use Rattle.plain_runs.specs.Host.{Host, descriptor_at, heap_words}
 use Rattle.plain_runs.specs.Units.{words_before, node_offset, HasUnit, IsPoll}
 use Rattle.plain_runs.specs.Sound.{IsHeld, IsRunnable, RunsAt, IsHosted, GoesOn, callers_of}
 use Rattle.plain_runs.proofs.Located.{nodes_at, words_within}
 use Rattle.plain_runs.proofs.Pointed.{next_offset, node_within}
-use Rattle.plain_runs.proofs.Keeping.{with_machine, unit_kept}
-use Rattle.plain_runs.proofs.Working.{AllRun, ChangedInView, code_same, heap_stays, view_on, view_goes_on}
-
--- the words of a node of a body behind its poll
-abbrev pub code_at : Host → ℕ → ℕ → Node → List Insn
-code_at h b n node =
-    let x = body_in h.bodies b in
-    node_code h.references (owns_context x) (frame_locals x) (words_before h.references (owns_context x) (frame_locals x) 0 0 x.nodes n) node (depth_from 0 x.nodes n)
+use Rattle.plain_runs.proofs.Keeping.{unit_kept}
+use Rattle.plain_runs.proofs.Working.{ChangedInView, code_same, heap_stays, view_on, view_goes_on}
 
 pub there_at : (h : Host) (b n : ℕ) (node : Node) → (p : IsPoll h h.machine.pc b n) → slice_get (body_in h.bodies b).nodes n ≡ Some node
     → At h.machine.memory h.machine.pc (poll ++ code_at h b n node) × IsCodeFrom h.machine.pc (length (poll ++ code_at h b n node))
@@ -71,14 +66,6 @@ next_poll h b n node next to p e more unit at =
       inside = slice_get_within (body_in h.bodies b).nodes (n + 1) next more;
       address = omega (arith, at, p.address, o, o2);
     }
-
--- what a node that is done leads to: in so many instructions a host that shows the activity so, at a node's poll
-pub record Follows (h : Host) (b n : ℕ) (next : Node) (now : Thread) : Type 0 where
-  pub instructions : ℕ
-  pub to : MachineState
-  pub goes : Goes instructions h.machine to
-  pub on : GoesOn h (with_machine h to) now
-  pub runs : RunsAt (with_machine h to) b n next
 
 -- A word is pended.
 pub pended_follows : (h : Host) (b n : ℕ) (node next : Node) (word : ℕ) → (r : RunsAt h b n node) → IsHosted h → AllRun h → h.current < 4 → h.machine.regs 2 < word_at h.machine.memory 0x30000000
@@ -136,3 +123,9 @@ dropped_follows h b n node next r hosted run low left more less d =
     let v = view_on h b (n + 1) next to _ r.view hosted run low c mv.kept mv.older stands poll_next more
         (left_shows m to (m.pc + 4 * length (poll ++ code_at h b n node)) ((m.regs 2 + 1) % 2 ^ 32) locals k mv b n (n + 1) ∙ same (depth x.nodes n) less) in
     record { instructions = d.instructions; to = to; goes = d.goes; on = view_goes_on h b (n + 1) next to _ r.view.older v c.heap counted (mv.kept 3 refl) (mv.kept 6 refl); runs = v.runs }
+
+pub pended_follow : PendedFollows
+pended_follow h b n node next word r c more deeper d = pended_follows h b n node next word r c.hosted c.runs c.current c.left more deeper d
+
+pub dropped_follow : DroppedFollows
+dropped_follow h b n node next r c more less d = dropped_follows h b n node next r c.hosted c.runs c.current c.left more less d

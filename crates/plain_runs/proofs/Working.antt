@@ -22,10 +22,11 @@ use Rattle.plain_words.specs.Units.{frame_words, frame_locals}
 use Rattle.plain_words.specs.Moves.{is_scratch, Moved, pended}
 use Rattle.plain_words.specs.Showing.{viewed, ChangedFrom}
 use Rattle.plain_words.proofs.Shown.{pended_shows, moved_window}
+use Rattle.plain_runs.specs.Course.{with_machine, AllRun}
 use Rattle.plain_runs.specs.Host.{Host, Status, Waiting, seen, waiting, threads_from, descriptor_at, heap_words, raw_of}
 use Rattle.plain_runs.specs.Units.{HasUnit, IsPoll, IsInPoll, IsBehindCall, node_offset}
 use Rattle.plain_runs.specs.Sound.{IsWindow, IsRoomy, IsCaller, IsHeld, Calls, Polls, IsRunnable, InFrame, RunsAt, IsHosted, GoesOn, callers_of, entry_frame, ending_stub}
-use Rattle.plain_runs.proofs.Keeping.{with_machine, SameCode, unit_kept, stub_kept, caller_kept, held_kept, threads_set, OthersWait, no_heap}
+use Rattle.plain_runs.proofs.Keeping.{SameCode, unit_kept, stub_kept, caller_kept, held_kept, threads_set, OthersWait, no_heap}
 use Rattle.plain_runs.proofs.Pointed.{poll_descriptor, call_descriptor, in_poll_descriptor}
 
 -- A word that is put in a stack leaves the heap.
@@ -102,10 +103,6 @@ fits_frame h pc b n node_pending sp fp d e fits room r = record {
   place = r.place;
   fits = (let P : Descriptor → Type 0 = Fits (4 * frame_words (body_in h.bodies b)) in subst P (sym e) fits);
 }
-
--- every body that runs has room in its frames for its locals and pending values
-abbrev pub AllRun : Host → Type 0
-AllRun h = (b : ℕ) → IsRunnable h b
 
 pub callers_have_room : (h : Host) → AllRun h → Frames (descriptor_at h) (IsCaller h)
 callers_have_room h run pc sp fp c =

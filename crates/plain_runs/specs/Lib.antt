@@ -2,3 +2,4 @@
 pub mod Host
 pub mod Units
 pub mod Sound
+pub mod Course

@@ -1,9 +1,9 @@
-// Laws.
-ghost use Rattle.std.specs.Prelude.{◌≡◌, ℕ};
-ghost use Rattle.plain_runs.specs.Sound.{IsCaller};
-ghost use Rattle.plain_runs.specs.Host.{Host, raw_of};
+// Laws about plain code under its host.
+ghost use Rattle.plain_runs.specs.Course.{PendedFollows, DroppedFollows, AnswerFollows};
 
-/// A law.
-pub fn nothing()
-    ensures { (h : Host) (pc sp fp : ℕ) → IsCaller h pc sp fp → raw_of h ≡ raw_of h }
+/// A law: where the words of a node do what it does, machine and host show the next raw state, at the poll of the next node.
+pub fn nodes_go_on()
+    ensures pended { PendedFollows }
+    ensures dropped { DroppedFollows }
+    ensures answered { AnswerFollows }
 {}
