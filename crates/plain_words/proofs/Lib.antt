@@ -8,3 +8,5 @@ pub mod Sending
 pub mod Returning
 pub mod Prologue
 pub mod Shown
+pub mod Growing
+pub mod Long
