@@ -5,13 +5,12 @@ use Rattle.std.specs.List.{list_any}
 use Rattle.std.proofs.lemmas.Grind.{common_steps}
 use Rattle.self_terms.specs.declared.bodies.Body.{Body}
 use Rattle.self_terms.specs.declared.nodes.Node.{Node}
-use Rattle.self_terms.specs.declared.bodies.Local.{Local}
 use Rattle.self_terms.specs.Depths.{grown, depth, depth_from}
 use Rattle.plain_words.specs.declared.references.References.{References}
 use Rattle.plain_words.specs.declared.units.Point.{Point}
 use Rattle.plain_words.specs.Units.{times, deepest, larger, nodes_code, nodes_points, node_code, node_points, entry_code, unit_code, unit_points, owns_context, frame_locals}
 use Rattle.sparc_insn.specs.declared.insn.Insn.{Insn}
-use Rattle.plain_words.specs.Code.{load, store, take, walk, arguments_code, argument_stores, initial_stores, set_word, poll}
+use Rattle.plain_words.specs.Code.{load, store, take, walk, arguments_code, argument_stores, initial_stores, poll}
 use Rattle.frame_walk.specs.Places.{local_offset}
 
 walk_suc : (n : ℕ) → walk n ++ (load 1 1 3 ∷ []) ≡ walk (suc n)

@@ -10,3 +10,5 @@ pub mod Prologue
 pub mod Shown
 pub mod Growing
 pub mod Long
+pub mod Emitted
+pub mod Insns

@@ -1,14 +1,17 @@
 -- How many words a node has, and the entry of a body.
-use Rattle.std.proofs.Common.{◌≡◌, ℕ, zero, suc, ◌+◌, ◌-◌, ◌*◌, ◌≤◌, refl, ◌∙◌, ap, sym, arith, length-append}
-use Rattle.std.specs.Prelude.{List, [], ◌∷◌, ◌++◌, Bool, true, false, length}
+use Rattle.std.proofs.Common.{◌≡◌, ℕ, zero, suc, ◌+◌, ◌-◌, ◌*◌, ◌/◌, ◌≤◌, refl, ◌∙◌, ap, arith, length-append}
+use Rattle.std.proofs.lemmas.Grind.{common_steps}
+use Rattle.self_terms.specs.declared.bodies.Body.{Body}
+use Rattle.self_terms.specs.declared.bodies.Local.{Local}
+use Rattle.self_terms.specs.Depths.{grown}
+use Rattle.std.specs.Prelude.{List, [], ◌∷◌, ◌++◌, Bool, true, false, length, map}
 use Rattle.self_terms.specs.declared.nodes.Node.{Node}
 use Rattle.self_terms.specs.declared.nodes.Node.TheVariants as nodes
-use Rattle.sparc_insn.specs.declared.insn.Insn.{Insn}
 use Rattle.sparc_insn.specs.declared.insn.Insn.TheVariants.{Trap}
 use Rattle.plain_words.specs.declared.references.References.{References}
-use Rattle.plain_words.specs.Code.{poll, walk, reach, arguments_code, send_code, implied_code, answered_code, read_code, store_code, return_code, ended_context}
-use Rattle.plain_words.specs.Units.{node_code}
-use Rattle.plain_words.specs.Translating.{IsShort}
+use Rattle.plain_words.specs.Code.{poll, walk, reach, arguments_code, send_code, implied_code, answered_code, read_code, store_code, return_code, argument_stores, initial_stores, plus, count}
+use Rattle.plain_words.specs.Units.{node_code, nodes_code, entry_code, unit_code, initial_words, datum_word, owns_context, frame_locals, frame_words, deepest}
+use Rattle.plain_words.specs.Translating.{IsShort, AreShort}
 
 walk_long : (n : ℕ) → length (walk n) ≡ n
 walk_long zero = refl
@@ -68,3 +71,51 @@ bare_long out r owns locals at (nodes.Prim name args implied handler) k h s = om
 -- a node with its poll, where locals stand at most so many bodies out
 pub node_long : (out : ℕ) (r : References) (owns : Bool) (locals at : ℕ) (node : Node) (k : ℕ) → 4 ≤ out → IsShort out node → length (poll ++ node_code r owns locals at node k) ≤ out + 10
 node_long out r owns locals at node k h s = let e = bare_long out r owns locals at node k h s in omega arith
+
+argument_stores_long : (register slot n : ℕ) → length (argument_stores register slot n) ≡ n
+argument_stores_long register slot zero = refl
+argument_stores_long register slot (suc n) = let e = argument_stores_long (register + 1) (slot + 1) n in omega arith
+
+initial_stores_long : (slot : ℕ) (ws : List ℕ) → length (initial_stores slot ws) ≡ 3 * length ws
+initial_stores_long slot [] = refl
+initial_stores_long slot (w ∷ ws) = let e = initial_stores_long (slot + 1) ws in omega arith
+
+initial_long : (r : References) (xs : List Local) → length (map (λ x. datum_word r x.initial) xs) ≡ length xs
+initial_long r [] = refl
+initial_long r (x ∷ xs) = let e = initial_long r xs in omega arith
+
+entry_long : (r : References) (b : Body) → length (entry_code r b) ≡ 9 + length b.arguments + 3 * length b.locals
+entry_long r b =
+    let n = length b.arguments in
+    let initial = initial_words r b in
+    let one = argument_stores_long 25 0 n in
+    let two = initial_stores_long n initial in
+    let three : length initial ≡ length b.locals = initial_long r b.locals in
+    let four = length-append (argument_stores 25 0 n) (initial_stores n initial ++ (plus 4 1 ∷ count ∷ [])) in
+    let five = length-append (initial_stores n initial) (plus 4 1 ∷ count ∷ []) in
+    omega arith
+
+more : (a n p q s : ℕ) → p ≤ a → q ≤ a * n → s ≡ p + q → s ≤ a * suc n
+more a n p q s h k e = let m : a * suc n ≡ a + a * n = grind (arith, common_steps) in omega arith
+
+nodes_long : (out : ℕ) (r : References) (owns : Bool) (locals at d : ℕ) (ns : List Node) → 4 ≤ out → AreShort out ns → length (nodes_code r owns locals at d ns) ≤ (out + 10) * length ns
+nodes_long out r owns locals at d [] h short = omega arith
+nodes_long out r owns locals at d (x ∷ xs) h short =
+    let P = poll ++ node_code r owns locals at x d in
+    let long : length P ≤ out + 10 = node_long out r owns locals at x d h (short 0 x refl) in
+    let rest : length (nodes_code r owns locals (at + length P) (grown x d) xs) ≤ (out + 10) * length xs = nodes_long out r owns locals (at + length P) (grown x d) xs h (λ k y e. short (suc k) y e) in
+    let sum : length (P ++ nodes_code r owns locals (at + length P) (grown x d) xs) ≡ length P + length (nodes_code r owns locals (at + length P) (grown x d) xs) = length-append P (nodes_code r owns locals (at + length P) (grown x d) xs) in
+    more (out + 10) (length xs) (length P) _ _ long rest sum
+
+pub unit_long : (out : ℕ) (r : References) (b : Body) → 4 ≤ out → AreShort out b.nodes → length (unit_code r b) ≤ (out + 10) * length b.nodes + 16 * (length b.arguments + length b.locals) + 64
+unit_long out r b h short =
+    let nodes = nodes_long out r (owns_context b) (frame_locals b) 0 0 b.nodes h short in
+    let entry = entry_long r b in
+    let sum = length-append (entry_code r b) (nodes_code r (owns_context b) (frame_locals b) 0 0 b.nodes) in
+    omega arith
+
+halves : (l d : ℕ) → 4 * (2 * ((29 + l + d) / 2)) ≤ 256 + 8 * (l + d)
+halves l d = omega arith
+
+pub frame_small : (b : Body) → 4 * frame_words b ≤ 256 + 8 * (frame_locals b + deepest 0 b.nodes)
+frame_small b = halves (frame_locals b) (deepest 0 b.nodes)

@@ -10,11 +10,11 @@ use Rattle.self_terms.specs.Words.{word_of}
 use Rattle.self_terms.specs.Depths.{taken, grown}
 use Rattle.sparc_insn.specs.declared.insn.Insn.{Insn}
 use Rattle.sparc_insn.specs.declared.insn.Insn.TheVariants.{Branch, Trap}
-use Rattle.std.specs.Prelude.{ℤ, pos, negsuc, false, true, slice_index}
+use Rattle.std.specs.Prelude.{negsuc, false, true, slice_index}
 use Rattle.plain_words.specs.declared.references.References.{References}
 use Rattle.plain_words.specs.declared.units.Point.{Point}
 use Rattle.frame_walk.specs.Places.{Descriptor, plain_descriptor}
-use Rattle.plain_words.specs.Code.{poll, nop, count, constant_code, self_code, read_code, store_code, drop_code, send_code, implied_code, answered_code, return_code, non_local_code, method_code}
+use Rattle.plain_words.specs.Code.{poll, count, constant_code, self_code, read_code, store_code, drop_code, send_code, implied_code, answered_code, return_code, non_local_code, method_code}
 
 -- the reference to an object, by its number; 0 where there is none
 abbrev pub object_word : References → ℕ → ℕ

@@ -4,7 +4,9 @@ ghost use Rattle.plain_words.specs.Code.{poll, set_word, constant_code, self_cod
 ghost use Rattle.plain_words.specs.Units.{node_code, restart_code, failing_code};
 ghost use Rattle.plain_words.specs.Translating.{IsShort};
 
-use crate::instructions::{base_of, copy, count, load, offset_of, pend, poll, store, take, with_number, with_register};
+use crate::instructions::{
+    base_of, copy, count, load, offset_of, pend, poll, store, take, with_number, with_register,
+};
 use crate::references::References;
 use self_terms::{Node, OutOfMemory, word_of_int};
 use sparc_insn::{Insn, Op3};
@@ -64,7 +66,14 @@ fn put_reach(code: &mut Vec<Insn>, up: u8) -> Result<(), OutOfMemory>
     put_walk(code, up - 1)
 }
 
-fn put_read(code: &mut Vec<Insn>, owns: bool, locals: u32, k: u32, up: u8, slot: u8) -> Result<(), OutOfMemory>
+fn put_read(
+    code: &mut Vec<Insn>,
+    owns: bool,
+    locals: u32,
+    k: u32,
+    up: u8,
+    slot: u8,
+) -> Result<(), OutOfMemory>
     requires { locals + k ≤ 512 }
     ensures { OnOk result (code.new.items ≡ code.old.items ++ read_code owns locals k up slot) }
 {
@@ -73,13 +82,23 @@ fn put_read(code: &mut Vec<Insn>, owns: bool, locals: u32, k: u32, up: u8, slot:
     put(code, &[value, pend(1, locals, k), count()])
 }
 
-fn put_store(code: &mut Vec<Insn>, owns: bool, locals: u32, k: u32, up: u8, slot: u8) -> Result<(), OutOfMemory>
+fn put_store(
+    code: &mut Vec<Insn>,
+    owns: bool,
+    locals: u32,
+    k: u32,
+    up: u8,
+    slot: u8,
+) -> Result<(), OutOfMemory>
     requires { locals + k ≤ 512 }
     ensures { OnOk result (code.new.items ≡ code.old.items ++ store_code owns locals k up slot) }
 {
     put_reach(code, up)?;
     let set = store(5, base_of(owns, up), offset_of(owns, up, slot));
-    put(code, &[take(5, locals, k), set, pend(24, locals, k), count()])
+    put(
+        code,
+        &[take(5, locals, k), set, pend(24, locals, k), count()],
+    )
 }
 
 // So many arguments, the first of which is number k of the pending values, to the outs from %o1 on.
@@ -129,9 +148,18 @@ fn put_return(code: &mut Vec<Insn>, owns: bool, locals: u32, k: u32) -> Result<(
     requires { locals + k ≤ 512 }
     ensures { OnOk result (code.new.items ≡ code.old.items ++ return_code owns locals k) }
 {
-    put(code, &[take(24, locals, k), count(), with_number(Op3::Sub, 4, 4, 1)])?;
+    put(
+        code,
+        &[take(24, locals, k), count(), with_number(Op3::Sub, 4, 4, 1)],
+    )?;
     put_ended(code, owns)?;
-    put(code, &[with_number(Op3::Jmpl, 0, 31, 8), with_register(Op3::Restore, 0, 0, 0)])
+    put(
+        code,
+        &[
+            with_number(Op3::Jmpl, 0, 31, 8),
+            with_register(Op3::Restore, 0, 0, 0),
+        ],
+    )
 }
 
 fn put_non_local(code: &mut Vec<Insn>, locals: u32, k: u32) -> Result<(), OutOfMemory>
@@ -156,7 +184,15 @@ fn put_restart(code: &mut Vec<Insn>, back: u32) -> Result<(), OutOfMemory>
 }
 
 // The words of a node behind its poll, which stands `at` words behind that of the first node, over k pending values.
-fn put_bare(code: &mut Vec<Insn>, references: &References, owns: bool, locals: u32, at: u32, node: Node, k: u32) -> Result<(), OutOfMemory>
+fn put_bare(
+    code: &mut Vec<Insn>,
+    references: &References,
+    owns: bool,
+    locals: u32,
+    at: u32,
+    node: Node,
+    k: u32,
+) -> Result<(), OutOfMemory>
     requires room { locals + k + 6 ≤ 512 }
     requires near { at < 90000 }
     requires short { IsShort 64 node }
@@ -169,10 +205,25 @@ fn put_bare(code: &mut Vec<Insn>, references: &References, owns: bool, locals: u
         Node::SelfRef => put_self(code, locals, k),
         Node::Read { up, slot } => put_read(code, owns, locals, k, up, slot),
         Node::Store { up, slot } => put_store(code, owns, locals, k.saturating_sub(1), up, slot),
-        Node::Send(sel) => put_send(code, locals, k.saturating_sub(sel.args as u32 + 1), sel.args),
-        Node::SelfSend(sel) => put_implied(code, locals, k.saturating_sub(sel.args as u32), sel.args),
+        Node::Send(sel) => put_send(
+            code,
+            locals,
+            k.saturating_sub(sel.args as u32 + 1),
+            sel.args,
+        ),
+        Node::SelfSend(sel) => put_implied(
+            code,
+            locals,
+            k.saturating_sub(sel.args as u32),
+            sel.args,
+        ),
         Node::Resend(sel) => put_implied(code, locals, k.saturating_sub(sel.args as u32), sel.args),
-        Node::Directed { sel, .. } => put_implied(code, locals, k.saturating_sub(sel.args as u32), sel.args),
+        Node::Directed { sel, .. } => put_implied(
+            code,
+            locals,
+            k.saturating_sub(sel.args as u32),
+            sel.args,
+        ),
         Node::Drop => put(code, &[count()]),
         Node::Restart => put_restart(code, at + 6),
         Node::Return => put_return(code, owns, locals, k.saturating_sub(1)),
@@ -184,7 +235,15 @@ fn put_bare(code: &mut Vec<Insn>, references: &References, owns: bool, locals: u
 }
 
 // The words of a node, its poll before them.
-pub(crate) fn put_node(code: &mut Vec<Insn>, references: &References, owns: bool, locals: u32, at: u32, node: Node, k: u32) -> Result<(), OutOfMemory>
+pub(crate) fn put_node(
+    code: &mut Vec<Insn>,
+    references: &References,
+    owns: bool,
+    locals: u32,
+    at: u32,
+    node: Node,
+    k: u32,
+) -> Result<(), OutOfMemory>
     requires room { locals + k + 6 ≤ 512 }
     requires near { at < 90000 }
     requires short { IsShort 64 node }

@@ -2,7 +2,7 @@
 ghost use Rattle.std.specs.Prelude.{◌≡◌, ◌<◌, ◌^◌};
 ghost use Rattle.self_terms.specs.Words.{IsSmall};
 ghost use Rattle.plain_words.specs.Units.{object_word, datum_word};
-ghost use Rattle.plain_words.specs.Translating.{IsSmallDatum};
+ghost use Rattle.plain_words.specs.Translating.{AreWords, IsSmallDatum};
 
 use self_terms::{Datum, Row, word_of_int};
 
@@ -21,6 +21,17 @@ impl References {
         match self.objects.as_slice().get(object as usize) {
             Some(word) => *word,
             None => 0,
+        }
+    }
+
+    /// References are words of 32 bits.
+    pub fn are_words(&self)
+        ensures { AreWords self.now }
+    {
+        let _nil = self.nil;
+        let objects = self.objects.as_slice();
+        for k in 0..objects.len() {
+            let _word = objects[k];
         }
     }
 

@@ -126,7 +126,10 @@ fn put_frame(code: &mut Vec<Insn>, words: u32) -> Result<(), OutOfMemory>
         cond: 1,
         disp: 2,
     };
-    put(code, &[frame, with_number(Op3::OrCc, 0, 5, 0), branch, copy(5, 24)])
+    put(
+        code,
+        &[frame, with_number(Op3::OrCc, 0, 5, 0), branch, copy(5, 24)],
+    )
 }
 
 // So many arguments to their places in the frame.
@@ -161,7 +164,12 @@ fn local_at(locals: &[Local], k: usize) -> Local
 }
 
 // The initial contents of the locals, the first of which has the number `slot`, to their places in the frame.
-fn put_initials(code: &mut Vec<Insn>, references: &References, slot: u32, locals: &[Local]) -> Result<(), OutOfMemory>
+fn put_initials(
+    code: &mut Vec<Insn>,
+    references: &References,
+    slot: u32,
+    locals: &[Local],
+) -> Result<(), OutOfMemory>
     requires low { slot ≤ 5 }
     requires few { length locals.now ≤ 64 }
     requires small { (k : ℕ) (x : Local) → slice_get locals.now k ≡ Some x → IsSmallDatum x.initial }
@@ -202,11 +210,21 @@ fn put_points(points: &mut Vec<Point>, words: usize, point: Point) -> Result<(),
 fn is_call(node: Node) -> bool
     ensures { result ≡ is_call node }
 {
-    matches!(node, Node::Send(_) | Node::SelfSend(_) | Node::Resend(_) | Node::Directed { .. })
+    matches!(
+        node,
+        Node::Send(_) | Node::SelfSend(_) | Node::Resend(_) | Node::Directed { .. }
+    )
 }
 
 // The points of so many words of a node over k pending values.
-fn put_node_points(points: &mut Vec<Point>, body: u32, n: u32, node: Node, k: u32, words: usize) -> Result<(), OutOfMemory>
+fn put_node_points(
+    points: &mut Vec<Point>,
+    body: u32,
+    n: u32,
+    node: Node,
+    k: u32,
+    words: usize,
+) -> Result<(), OutOfMemory>
     ensures { OnOk result (points.new.items ≡ points.old.items ++ node_points body n node k words) }
 {
     let before = Point {
@@ -228,7 +246,17 @@ fn put_node_points(points: &mut Vec<Point>, body: u32, n: u32, node: Node, k: u3
 
 // Node n of a body, over k pending values, its first word standing `at` words behind that of the first node: its words and their points.
 // Tells how many words it has.
-fn add_node(unit: &mut Unit, references: &References, number: u32, owns: bool, locals: u32, at: u32, n: u32, node: Node, k: u32) -> Result<u32, OutOfMemory>
+fn add_node(
+    unit: &mut Unit,
+    references: &References,
+    number: u32,
+    owns: bool,
+    locals: u32,
+    at: u32,
+    n: u32,
+    node: Node,
+    k: u32,
+) -> Result<u32, OutOfMemory>
     requires room { locals + k + 6 ≤ 512 }
     requires near { at < 90000 }
     requires short { IsShort 64 node }
@@ -256,7 +284,12 @@ fn node_at(body: &Body, k: usize) -> Node
 }
 
 /// The unit of a body, and for each of its words what it says of the frame, with the number of the body.
-pub fn unit_of(alloc: Global, references: &References, number: u32, body: &Body) -> Result<Unit, OutOfMemory>
+pub fn unit_of(
+    alloc: Global,
+    references: &References,
+    number: u32,
+    body: &Body,
+) -> Result<Unit, OutOfMemory>
     requires { CanTranslate body.now }
     ensures code { IfOk result (λ u. u.code.items ≡ unit_code references.now body.now) }
     ensures points { IfOk result (λ u. u.points.items ≡ unit_points references.now number body.now) }
@@ -279,7 +312,9 @@ pub fn unit_of(alloc: Global, references: &References, number: u32, body: &Body)
     let mut over = 0;
     for k in 0..body.nodes.len() {
         let node = node_at(body, k);
-        at += add_node(&mut unit, references, number, owns, locals, at, k as u32, node, over)?;
+        at += add_node(
+            &mut unit, references, number, owns, locals, at, k as u32, node, over,
+        )?;
         over = grown(node, over);
     }
     Ok(unit)

@@ -1,4 +1,4 @@
-use Rattle.std.proofs.Common.{◌≡◌, ◌++◌, ◌+◌, [], ◌∷◌, append_assoc, refl}
+use Rattle.std.proofs.Common.{◌+◌, [], ◌∷◌, append_assoc, refl}
 use Rattle.plain_words.specs.Code.{take, arguments_code}
 use Rattle.plain_words.proofs.Growing.{arguments_more}
 use Rattle.plain_words.proofs.nodes.put_arguments.Goals as goal

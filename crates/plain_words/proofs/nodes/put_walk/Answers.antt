@@ -1,4 +1,4 @@
-use Rattle.std.proofs.Common.{◌≡◌, ◌++◌, [], ◌∷◌, append_assoc}
+use Rattle.std.proofs.Common.{[], ◌∷◌, append_assoc}
 use Rattle.plain_words.specs.Code.{load, walk}
 use Rattle.plain_words.proofs.Growing.{walk_more}
 use Rattle.plain_words.proofs.nodes.put_walk.Goals as goal

@@ -1,4 +1,4 @@
-use Rattle.std.proofs.Common.{◌≡◌, ◌++◌, ◌≤◌, ◌+◌, arith, refl, ap, ◌∙◌, length, ◌<◌, ◌^◌}
+use Rattle.std.proofs.Common.{◌≡◌, ◌++◌, arith, ap, ◌∙◌, length}
 use Rattle.plain_words.specs.Code.{poll}
 use Rattle.plain_words.specs.Units.{node_code, node_points}
 use Rattle.plain_words.proofs.Growing.{counted}

@@ -1,6 +1,6 @@
-use Rattle.std.proofs.Common.{◌≡◌, ◌≤◌, ◌+◌, arith, refl, ◌∙◌, ap, sym}
+use Rattle.std.proofs.Common.{◌≡◌, ◌+◌, arith, ◌∙◌, ap, sym}
 use Rattle.self_terms.specs.Depths.{grown, depth}
-use Rattle.plain_words.specs.Units.{larger, deepest}
+use Rattle.plain_words.specs.Units.{deepest}
 use Rattle.std.proofs.lemmas.Grind.{common_steps}
 use Rattle.plain_words.proofs.Growing.{depth_none, depth_next, deepest_step, larger_zero}
 use Rattle.plain_words.proofs.translator.deepest.Goals as goal

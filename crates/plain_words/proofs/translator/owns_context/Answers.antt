@@ -1,5 +1,5 @@
-use Rattle.std.proofs.Common.{◌≡◌, ◌+◌, true, false, ◌∙◌, sym}
-use Rattle.plain_words.specs.Units.{owns_context, is_block_literal}
+use Rattle.std.proofs.Common.{◌≡◌, true, false, ◌∙◌, sym}
+use Rattle.plain_words.specs.Units.{is_block_literal}
 use Rattle.plain_words.proofs.Growing.{any_here, any_past}
 use Rattle.plain_words.proofs.translator.owns_context.Goals as goal
 

@@ -1,4 +1,4 @@
-use Rattle.std.proofs.Common.{◌≡◌, ◌++◌, ◌+◌, [], ◌∷◌, append_assoc, refl, arith}
+use Rattle.std.proofs.Common.{◌+◌, [], ◌∷◌, append_assoc, refl, arith}
 use Rattle.frame_walk.specs.Places.{local_offset}
 use Rattle.plain_words.specs.Code.{store, argument_stores}
 use Rattle.plain_words.proofs.Growing.{stores_more}

@@ -1,4 +1,4 @@
-use Rattle.std.proofs.Common.{◌≡◌, ◌++◌, ◌+◌, [], ◌∷◌, append_assoc, refl}
+use Rattle.std.proofs.Common.{[], ◌∷◌, append_assoc}
 use Rattle.plain_words.specs.Units.{times}
 use Rattle.plain_words.proofs.Growing.{times_more}
 use Rattle.plain_words.proofs.translator.put_points.Goals as goal

@@ -1,6 +1,6 @@
-use Rattle.std.proofs.Common.{◌≡◌, ◌≤◌, ◌*◌, ◌+◌, arith, refl, ap, sym, ◌∙◌, length}
+use Rattle.std.proofs.Common.{◌≡◌, arith, refl, ap, sym, ◌∙◌, length}
 use Rattle.std.specs.Prelude.{◌++◌}
-use Rattle.self_terms.specs.Depths.{grown, depth}
+use Rattle.self_terms.specs.Depths.{grown}
 use Rattle.plain_words.specs.Units.{entry_code, unit_code, unit_points}
 use Rattle.plain_words.proofs.Growing.{unit_begins, points_begin, code_step, points_step, depth_none, depth_next}
 use Rattle.plain_words.proofs.translator.unit_of.Goals as goal
