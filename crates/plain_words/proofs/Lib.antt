@@ -8,3 +8,7 @@ pub mod Sending
 pub mod Returning
 pub mod Prologue
 pub mod Shown
+pub mod Growing
+pub mod Long
+pub mod Emitted
+pub mod Insns

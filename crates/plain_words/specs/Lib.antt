@@ -4,3 +4,5 @@ pub mod Going
 pub mod Moves
 pub mod Showing
 pub mod Units
+pub mod Translating
+pub mod Putting

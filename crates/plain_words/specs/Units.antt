@@ -10,15 +10,13 @@ use Rattle.self_terms.specs.Words.{word_of}
 use Rattle.self_terms.specs.Depths.{taken, grown}
 use Rattle.sparc_insn.specs.declared.insn.Insn.{Insn}
 use Rattle.sparc_insn.specs.declared.insn.Insn.TheVariants.{Branch, Trap}
-use Rattle.std.specs.Prelude.{ℤ, pos, negsuc, false, true, slice_index}
+use Rattle.std.specs.Prelude.{negsuc, false, true, slice_index}
+use Rattle.plain_words.specs.declared.references.References.{References}
+use Rattle.plain_words.specs.declared.units.Point.{Point}
 use Rattle.frame_walk.specs.Places.{Descriptor, plain_descriptor}
-use Rattle.plain_words.specs.Code.{poll, nop, count, constant_code, self_code, read_code, store_code, drop_code, send_code, implied_code, answered_code, return_code, non_local_code, method_code}
+use Rattle.plain_words.specs.Code.{poll, count, constant_code, self_code, read_code, store_code, drop_code, send_code, implied_code, answered_code, return_code, non_local_code, method_code}
 
--- The words by which the units of a session know objects: the reference to each, by its number, and that to `nil`.
-pub record References : Type 0 where
-  pub objects : List ℕ
-  pub nil : ℕ
-
+-- the reference to an object, by its number; 0 where there is none
 abbrev pub object_word : References → ℕ → ℕ
 object_word r o = slice_index r.objects o
 
@@ -96,13 +94,7 @@ entry_code r b = method_code (4 * frame_words b) (length b.arguments) (initial_w
 abbrev pub unit_code : References → Body → List Insn
 unit_code r b = entry_code r b ++ nodes_code r (owns_context b) (frame_locals b) 0 0 b.nodes
 
--- What a word of a unit says of the frame of an activation that goes on there: its body, the number of the node that is done, and how many
--- values are pending.
-pub record Point : Type 0 where
-  pub body : ℕ
-  pub node : ℕ
-  pub pending : ℕ
-
+-- what a word of a unit says of the frame of an activation that goes on there
 abbrev pub point_descriptor : ℕ → Point → Descriptor
 point_descriptor locals p = plain_descriptor p.body p.node locals p.pending
 
