@@ -1,7 +1,8 @@
-// The devices of the system. Each counts its faults and tells nothing of its content: the trusted edge.
+// The devices of the system, which count their faults. A source tells what the reader under it tells; the system's own
+// readers, writers and files tell nothing of their content: the trusted edge.
 ghost use Rattle.std.specs.Prelude.{◌≡◌, ◌<◌, ◌≤◌, List, ℕ, None, length, IfOk, MatchResult};
 ghost use Rattle.std.specs.Io.{ReadsAtMost, WritesAtMost};
-ghost use Rattle.std.specs.Io.KnownBytes.{ReadConsumes};
+ghost use Rattle.std.specs.Io.KnownBytes.{ReadConsumes, WriteAppends};
 ghost use Rattle.io_ports.specs.Causes.{HasCause, WriteTakes, CountsFault};
 ghost use Rattle.io_ports.specs.Devices.{NameCounts, count_for, raised_for};
 
@@ -10,7 +11,7 @@ use std::io::{Read, Seek, SeekFrom, Write};
 use std::marker::Model;
 use std::{fs, io, rt};
 
-/// A reader of std. Each of its errors is a fault, also an interrupted call.
+/// A reader of std. Each of its errors is a fault, also an interrupted call. It tells the bytes that the reader tells.
 #[derive(Drop)]
 pub struct StdSource<R> {
     inner: R,
@@ -20,36 +21,37 @@ pub struct StdSource<R> {
 impl<R> Model for StdSource<R> {
     ghost use Rattle.std.specs.Prelude.{ℕ};
 
-    ghost Value = { ℕ };
+    ghost Value = { R × ℕ };
 
-    ghost view = { λ s. s.faults };
+    ghost view = { λ s. (s.inner, s.faults) };
 }
 
 impl<R> StdSource<R> {
     /// A source over this reader, which hasn't failed yet.
     pub fn new(inner: R) -> Self
-        ensures { result ≡ 0 }
+        ensures { result ≡ (inner, 0) }
     {
         StdSource { inner, faults: 0 }
     }
 
     /// How many calls failed.
     pub fn faults(&self) -> u64
-        ensures { result ≡ self.now }
+        ensures { result ≡ self.now.1 }
     {
         self.faults
     }
 }
 
 impl<R: Read> Source for StdSource<R> {
-    ghost left = { λ _. None };
+    ghost left = { λ s. R.remaining s.0 };
 
-    ghost faults = { λ s. s };
+    ghost faults = { λ s. s.1 };
 
     fn read(&mut self, into: &mut [u8]) -> Result<usize, Failed>
         ensures bound { ReadsAtMost result into.new }
-        ensures cause { HasCause self.old self.new result }
-        ensures counts { CountsFault self.old self.new result }
+        ensures bytes { ReadConsumes (R.remaining self.old.0) (R.remaining self.new.0) result into.new }
+        ensures cause { HasCause self.old.1 self.new.1 result }
+        ensures counts { CountsFault self.old.1 self.new.1 result }
     {
         match self.inner.read(into) {
             Ok(count) => Ok(count),
@@ -61,7 +63,8 @@ impl<R: Read> Source for StdSource<R> {
     }
 }
 
-/// A writer of std. Each of its errors is a fault, also where it takes nothing of a piece that isn't empty.
+/// A writer of std. Each of its errors is a fault, also where it takes nothing of a piece that isn't empty. It tells nothing
+/// of what it took, since a writer may begin to tell late; but a writer that tells took just what this sink says.
 #[derive(Drop)]
 pub struct StdSink<W> {
     inner: W,
@@ -71,22 +74,22 @@ pub struct StdSink<W> {
 impl<W> Model for StdSink<W> {
     ghost use Rattle.std.specs.Prelude.{ℕ};
 
-    ghost Value = { ℕ };
+    ghost Value = { W × ℕ };
 
-    ghost view = { λ s. s.faults };
+    ghost view = { λ s. (s.inner, s.faults) };
 }
 
 impl<W> StdSink<W> {
     /// A sink over this writer, which hasn't failed yet.
     pub fn new(inner: W) -> Self
-        ensures { result ≡ 0 }
+        ensures { result ≡ (inner, 0) }
     {
         StdSink { inner, faults: 0 }
     }
 
     /// How many calls failed.
     pub fn faults(&self) -> u64
-        ensures { result ≡ self.now }
+        ensures { result ≡ self.now.1 }
     {
         self.faults
     }
@@ -95,13 +98,15 @@ impl<W> StdSink<W> {
 impl<W: Write> Sink for StdSink<W> {
     ghost taken = { λ _. None };
 
-    ghost faults = { λ s. s };
+    ghost faults = { λ s. s.1 };
 
     fn write(&mut self, piece: &[u8]) -> Result<usize, Failed>
         ensures bound { WritesAtMost result piece.now }
         ensures some { IfOk result (λ n. 0 < length piece.now → 0 < n) }
-        ensures cause { HasCause self.old self.new result }
-        ensures counts { CountsFault self.old self.new result }
+        ensures cause { HasCause self.old.1 self.new.1 result }
+        ensures counts { CountsFault self.old.1 self.new.1 result }
+        // What the writer tells grew by what was taken, and at a failure by nothing.
+        ensures written { WriteAppends (W.contents self.old.0) (W.contents self.new.0) result piece.now }
     {
         match self.inner.write(piece) {
             Ok(count) if count > 0 || piece.is_empty() => Ok(count),

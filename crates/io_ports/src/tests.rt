@@ -1,10 +1,13 @@
 // Calls that take memory, each once with memory to spare; devices that fail in mid-stream; the adapters over std.
+ghost use Rattle.std.specs.Prelude.{◌≡◌, IfOk};
+
 use crate::{
-    Failed, MemFiles, MemSink, MemSource, NamedFile, ReadErr, StdFiles, StdSink, StdSource,
+    Failed, Files, MemFiles, MemSink, MemSource, NamedFile, ReadErr, StdFiles, StdSink, StdSource,
     SureFiles, SureSink, SureSource, read_all, read_file, write_all,
 };
-use std::fs;
+use std::io::{ErrorKind, Read, Write};
 use std::test::Fail;
+use std::{fs, io};
 
 // More than one piece, and less than two.
 const LEN: usize = 5000;
@@ -107,6 +110,72 @@ fn adapts_readers_and_writers(rt: HostRuntime) -> Result<(), Fail> {
     assert_eq!(rt; write_all(&mut sink, b"abcdef"), Err(Failed));
     assert_eq!(rt; sink.faults(), 1);
     assert_eq!(rt; place.as_slice(), b"abcd".as_slice());
+    Ok(())
+}
+
+// A reader and a writer without an end, whose second call fails.
+#[derive(Drop)]
+struct Breaking {
+    calls: u64,
+}
+
+impl Breaking {
+    fn call(&mut self, count: usize) -> io::Result<usize>
+        ensures { IfOk result (λ n. n ≡ count) }
+    {
+        self.calls = self.calls.saturating_add(1);
+        if self.calls == 2 {
+            return Err(io::Error::from(ErrorKind::Other));
+        }
+        Ok(count)
+    }
+}
+
+impl Read for Breaking {
+    fn read(&mut self, into: &mut [u8]) -> io::Result<usize> {
+        self.call(into.len())
+    }
+}
+
+impl Write for Breaking {
+    fn write(&mut self, piece: &[u8]) -> io::Result<usize> {
+        self.call(piece.len())
+    }
+
+    fn flush(&mut self) -> io::Result<()> {
+        Ok(())
+    }
+}
+
+#[test]
+fn adapters_count_what_fails_in_mid_stream(rt: HostRuntime) -> Result<(), Fail> {
+    let mut source = StdSource::new(Breaking { calls: 0 });
+    assert_eq!(rt; read_all(rt.alloc(), &mut source, LEN), Err(ReadErr::Fault));
+    assert_eq!(rt; source.faults(), 1);
+
+    let mut sink = StdSink::new(Breaking { calls: 0 });
+    assert_eq!(rt; write_all(&mut sink, &[7u8; LEN]), Err(Failed));
+    assert_eq!(rt; sink.faults(), 1);
+    Ok(())
+}
+
+// A file that is gone at its second piece can't be opened; a folder is opened, and can't be read.
+#[test]
+fn the_systems_files_count_what_fails(rt: HostRuntime) -> Result<(), Fail> {
+    fs::write(&rt, "io_ports_gone", b"abc".as_slice())?;
+    let mut files = StdFiles::new(&rt, "io_ports_gone");
+    let mut piece = [0u8; 3];
+    assert_eq!(rt; files.read_at("io_ports_gone", 0, &mut piece), Ok(3));
+    fs::remove_file(&rt, "io_ports_gone")?;
+    assert_eq!(rt; files.read_at("io_ports_gone", 3, &mut piece), Err(Failed));
+    assert_eq!(rt; files.faults_of("io_ports_gone"), 1);
+
+    let mut files = StdFiles::new(&rt, ".");
+    assert_eq!(rt;
+        read_file(rt.alloc(), &mut files, ".", 3),
+        Err(ReadErr::Fault)
+    );
+    assert_eq!(rt; files.faults_of("."), 1);
     Ok(())
 }
 

@@ -49,4 +49,12 @@ p* = 'a'.;ParentNotObject at 1:1
 nil = 3.;MissingCore nil
 nil <- ().;MissingCore nil
 nil = ( | true = () | ).;MissingCore true
-nil = 'a'.;MissingCore nil";
+nil = 'a'.;MissingCore nil
+b = 1. a = ( | p* = lobby | ). c = a b.;NoSuchPath at 1:38
+b = 1. a = ( | p* = lobby | ). c = a p b.;MissingCore nil
+nil = ().;MissingCore true
+nil = (). true = ().;MissingCore false
+nil = (). true = (). false = ().;MissingCore integerTraits
+nil = (). true = (). false = (). integerTraits = ().;MissingCore stringTraits
+nil = (). true = (). false = (). integerTraits = (). stringTraits = ().;MissingCore vectorTraits
+nil = (). true = (). false = (). integerTraits = (). stringTraits = (). vectorTraits = ().;MissingCore blockTraits";

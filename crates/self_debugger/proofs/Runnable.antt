@@ -8,7 +8,7 @@ use Rattle.run_core.specs.Plain.{IsRunnable}
 use Rattle.self_reader.specs.declared.texts.TheConstants.{LIMITS}
 use Rattle.self_signs.specs.Signs.{signs, names_after}
 use Rattle.self_reader.specs.Texts.{known}
-use Rattle.world_build.specs.Names.{number_of}
+use Rattle.source_model.specs.Names.{number_of}
 use Rattle.world_build.specs.Soundness.{IsSound}
 use Rattle.world_build.specs.Worlds.{lobby_method}
 use Rattle.world_build.proofs.Runnable.{accepted_sound}

@@ -1,7 +1,9 @@
 // What is known of answers without a call.
-ghost use Rattle.std.specs.Prelude.{◌≡◌, ℕ, List, Option, Some};
+ghost use Rattle.std.specs.Prelude.{◌≡◌, ℕ, List, Option, Some, Result};
+ghost use Rattle.world_build.specs.Worlds.{World};
 ghost use Rattle.self_debugger.specs.Answer.{Answer, Answers};
 ghost use Rattle.self_debugger.specs.Headline.{TellsWorld};
+ghost use Rattle.self_debugger.specs.WorldFiles.{WorldRead};
 
 /// To all words, over all files and scripts, there is no more than one answer, and there is one where the world and
 /// the script are told.
@@ -13,3 +15,9 @@ pub fn one_answer()
 {
     first_text::one_meaning();
 }
+
+/// The bytes of each file mean one thing, and one alone: a world, or the line that refuses them.
+pub fn files_mean_one_thing()
+    ensures one { (bytes : List ℕ) (a b : Result World (List ℕ)) → WorldRead bytes a → WorldRead bytes b → a ≡ b }
+    ensures some { (bytes : List ℕ) → (a : Result World (List ℕ)) × WorldRead bytes a }
+{}

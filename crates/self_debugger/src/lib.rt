@@ -12,7 +12,7 @@ mod top;
 mod words;
 mod worlds;
 
-pub use laws::one_answer;
+pub use laws::{files_mean_one_thing, one_answer};
 pub use lines::{activity_line, build_line, ok_line, read_line, run_line};
 pub use run_core::{Outcome, RunEnd, run_first};
 pub use top::{Ended, selfdb};

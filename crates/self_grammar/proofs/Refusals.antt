@@ -9,7 +9,7 @@ use Rattle.self_grammar.specs.declared.signs.Sign.{Sign}
 use Rattle.self_grammar.specs.declared.signs.ReadRefusal.{ReadRefusal}
 use Rattle.self_grammar.specs.Grammar as g
 use Rattle.self_grammar.specs.Counts.{Limits, Mark, Context, write, mark_at, moved}
-use Rattle.self_grammar.specs.Refusal.{signs, AreSound, Expected, IsText, Begins, BeginsSoundly, Expects, last_next, kind_of, IsWrong, no_token, no_bar, no_text, rule, IsRefused}
+use Rattle.self_grammar.specs.Refusal.{signs, AreSound, Expected, IsText, Begins, BeginsSoundly, Expects, last_next, kind_of, IsWrong, no_token, no_bar, no_text, rule, IsRefused, IsLast, IsEnded}
 use Rattle.self_grammar.specs.Spelling as s
 use Rattle.self_grammar.proofs.Places.{Lists, in_world, in_bars, in_object, Start, listed, lone, Contents, undecided, coded, Text, marks}
 use Rattle.self_grammar.proofs.Places as p
@@ -305,15 +305,6 @@ refused_is_no_world l given r h w t = never_both l world_start given r (p.world 
 pub refused_is_no_edit : (l : Limits) (given : List Sign) (r : ReadRefusal) → IsRefused g.Edit (s.edit l) given r → (w : g.Edit) → IsText (s.edit l) given w → ⊥
 refused_is_no_edit l given r h w t = never_both l edit_start given r (p.edit w) (edit_refusal l given r h) (edit_is_read l given w t)
 
--- The last of these signs is the end or a fault. The others may be any: the reader stops at a fault, and behind an end.
-abbrev pub IsLast : Symbol → Type 0
-IsLast x = (x ≡ sign.End) ⊎ ((f : Fault) × (x ≡ sign.Bad f))
-
-abbrev pub IsClosed : List Sign → Type 0
-IsClosed [] = ⊥
-IsClosed (x ∷ []) = IsLast x.symbol
-IsClosed (x ∷ y ∷ ys) = IsClosed (y ∷ ys)
-
 -- The end finishes a text.
 abbrev Finishes : Moves.Move → Type 0
 Finishes m = (t : Text) × (m.to ≡ Moves.finished t)
@@ -388,7 +379,7 @@ last_ends l v u x b c is =
 abbrev Outcome : Limits → State → List Sign → Type 0
 Outcome l v given = ((t : Text) × Ends l v given t) ⊎ ((r : ReadRefusal) × Stops l v given r)
 
-ends_or_stops : (l : Limits) (given : List Sign) (v : State) → IsClosed given → Outcome l v given
+ends_or_stops : (l : Limits) (given : List Sign) (v : State) → IsEnded given → Outcome l v given
 unfolding run
 ends_or_stops l [] v c = absurd c
 ends_or_stops l (x ∷ []) v c = met (step l v x.symbol x.spot) refl
@@ -409,7 +400,7 @@ ends_or_stops l (x ∷ y ∷ ys) v c = met (step l v x.symbol x.spot) refl (λ u
         ]
 
 -- Closed signs are a world or refused as one,
-pub world_or_refusal : (l : Limits) (given : List Sign) → IsClosed given → ((w : g.World) × IsText (s.world l) given w) ⊎ ((r : ReadRefusal) × IsRefused g.World (s.world l) given r)
+pub world_or_refusal : (l : Limits) (given : List Sign) → IsEnded given → ((w : g.World) × IsText (s.world l) given w) ⊎ ((r : ReadRefusal) × IsRefused g.World (s.world l) given r)
 world_or_refusal l given c =
     elim (ends_or_stops l given world_start c) [
       | inl e ↦ inl (reader.world_found l given e.1.state e.0 e.1.ran e.1.at)
@@ -417,7 +408,7 @@ world_or_refusal l given c =
     ]
 
 -- and an edit or refused as one.
-pub edit_or_refusal : (l : Limits) (given : List Sign) → IsClosed given → ((e : g.Edit) × IsText (s.edit l) given e) ⊎ ((r : ReadRefusal) × IsRefused g.Edit (s.edit l) given r)
+pub edit_or_refusal : (l : Limits) (given : List Sign) → IsEnded given → ((e : g.Edit) × IsText (s.edit l) given e) ⊎ ((r : ReadRefusal) × IsRefused g.Edit (s.edit l) given r)
 edit_or_refusal l given c =
     elim (ends_or_stops l given edit_start c) [
       | inl e ↦ inl (reader.edit_found l given e.1.state e.0 e.1.ran e.1.at)

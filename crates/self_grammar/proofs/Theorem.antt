@@ -13,7 +13,7 @@ use Rattle.self_grammar.proofs.Moves
 use Rattle.self_grammar.proofs.Reading.{State, world_start, edit_start, step}
 use Rattle.self_grammar.proofs.Found.{run, Reached, world_reached, edit_reached, runs_on, is_text}
 use Rattle.self_grammar.proofs.Bases.{base}
-use Rattle.self_grammar.proofs.Only.{world_is_read}
+use Rattle.self_grammar.proofs.Only.{world_is_read, edit_is_read}
 use Rattle.self_grammar.proofs.Refused.{as_world, run_base, world_begins, world_wrong}
 use Rattle.self_grammar.proofs.RefusedEdit.{as_edit, edit_begins, edit_wrong}
 
@@ -76,6 +76,18 @@ one_world l given a b ta tb =
     let eb = world_is_read l given b tb in
     let same : ea.state ≡ eb.state = oks ea.state eb.state (sym ea.ran ∙ eb.ran) in
     let texts : Moves.finished (p.world a) ≡ Moves.finished (p.world b) = sym ea.at ∙ ap (λ y. y.place) same ∙ eb.at in
+    cc
+  where
+    oks : (x y : State) → Went x ≡ Ok y → x ≡ y
+    oks x y e = cc
+
+-- and so are those of an edit.
+pub one_edit : (l : Limits) (given : List Sign) (a b : g.Edit) → IsText (s.edit l) given a → IsText (s.edit l) given b → a ≡ b
+one_edit l given a b ta tb =
+    let ea = edit_is_read l given a ta in
+    let eb = edit_is_read l given b tb in
+    let same : ea.state ≡ eb.state = oks ea.state eb.state (sym ea.ran ∙ eb.ran) in
+    let texts : Moves.finished (p.edit a) ≡ Moves.finished (p.edit b) = sym ea.at ∙ ap (λ y. y.place) same ∙ eb.at in
     cc
   where
     oks : (x y : State) → Went x ≡ Ok y → x ≡ y

@@ -1,9 +1,10 @@
 -- Which texts are read, and where all others are refused. A text is a list of signs, the last of which is the end or a fault.
 -- The definitions serve for any kind of text whose members have marks: worlds and edits.
-use Rattle.std.specs.Prelude.{◌≡◌, ◌≢◌, ℕ, Option, None, Some, List, [], ◌∷◌, ◌++◌, map, take, slice_get}
+use Rattle.std.specs.Prelude.{◌≡◌, ◌≢◌, ◌⊎◌, ℕ, Option, None, Some, List, [], ◌∷◌, ◌++◌, map, take, slice_get}
 use Rattle.self_tokens.specs.declared.symbols.Fault.{Fault}
 use Rattle.self_tokens.specs.declared.symbols.Fault.TheVariants as fault
 use Rattle.self_grammar.specs.declared.signs.Spot.{Spot}
+use Rattle.self_grammar.specs.declared.signs.Symbol.{Symbol}
 use Rattle.self_grammar.specs.declared.signs.Symbol.TheVariants as sign
 use Rattle.self_grammar.specs.declared.signs.Sign.{Sign}
 use Rattle.self_grammar.specs.declared.signs.ReadKind.{ReadKind}
@@ -27,6 +28,15 @@ Expected (Some p) ms = IsBarred ms
 abbrev pub AreSound : List Mark → Type 0
 AreSound [] = Unit {0}
 AreSound (m ∷ ms) = (m.fault ≡ None) × Expected m.next ms × AreSound ms
+
+-- The last of these signs is the end or no token. The others may be any: reading stops at what is no token, and behind an end.
+abbrev pub IsLast : Symbol → Type 0
+IsLast x = (x ≡ sign.End) ⊎ ((f : Fault) × (x ≡ sign.Bad f))
+
+abbrev pub IsEnded : List Sign → Type 0
+IsEnded [] = ⊥
+IsEnded (x ∷ []) = IsLast x.symbol
+IsEnded (x ∷ y ∷ ys) = IsEnded (y ∷ ys)
 
 -- These signs are this text, and nothing is wrong with it.
 abbrev pub IsText : {T : Type 0} → (T → List Mark) → List Sign → T → Type 0

@@ -127,7 +127,8 @@ fn is_allowed(operation: Op3, rd: u8, rs1: u8, from: Operand) -> bool
     }
 }
 
-fn signed30(n: u32) -> i32
+#[inline]
+pub(crate) fn signed30(n: u32) -> i32
     requires { n < 2 ^ 30 }
     ensures fits { IsSigned 30 result }
     ensures bits { complement_bits 30 result ≡ n }
@@ -139,7 +140,8 @@ fn signed30(n: u32) -> i32
     }
 }
 
-fn signed22(n: u32) -> i32
+#[inline]
+pub(crate) fn signed22(n: u32) -> i32
     requires { n < 2 ^ 22 }
     ensures fits { IsSigned 22 result }
     ensures bits { complement_bits 22 result ≡ n }

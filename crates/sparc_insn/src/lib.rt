@@ -10,6 +10,7 @@ mod encoding;
 mod insn;
 mod laws;
 mod operations;
+mod reading;
 #[cfg(test)]
 mod tests;
 
@@ -17,3 +18,4 @@ pub use decoding::decode;
 pub use encoding::encode;
 pub use insn::{Insn, Op3, Operand};
 pub use laws::{decodes, encodes, one_word};
+pub use reading::read;

@@ -54,6 +54,96 @@ pub fn op3(operation: Op3) -> u32
     }
 }
 
+// The operations of op 2 by their op3. `Add` stands where there is none.
+static OPERATIONS_OF_OP2: [Op3; 64] = [
+    Op3::Add,
+    Op3::And,
+    Op3::Or,
+    Op3::Xor,
+    Op3::Sub,
+    Op3::Andn,
+    Op3::Orn,
+    Op3::Xnor,
+    Op3::Add,
+    Op3::Add,
+    Op3::Add,
+    Op3::Smul,
+    Op3::Add,
+    Op3::Add,
+    Op3::Add,
+    Op3::Sdiv,
+    Op3::AddCc,
+    Op3::AndCc,
+    Op3::OrCc,
+    Op3::XorCc,
+    Op3::SubCc,
+    Op3::Add,
+    Op3::Add,
+    Op3::Add,
+    Op3::Add,
+    Op3::Add,
+    Op3::Add,
+    Op3::Add,
+    Op3::Add,
+    Op3::Add,
+    Op3::Add,
+    Op3::Add,
+    Op3::TaddCc,
+    Op3::TsubCc,
+    Op3::Add,
+    Op3::Add,
+    Op3::Add,
+    Op3::Sll,
+    Op3::Srl,
+    Op3::Sra,
+    Op3::Rdy,
+    Op3::Add,
+    Op3::Add,
+    Op3::Add,
+    Op3::Add,
+    Op3::Add,
+    Op3::Add,
+    Op3::Add,
+    Op3::Wry,
+    Op3::Add,
+    Op3::Add,
+    Op3::Add,
+    Op3::Add,
+    Op3::Add,
+    Op3::Add,
+    Op3::Add,
+    Op3::Jmpl,
+    Op3::Add,
+    Op3::Add,
+    Op3::Add,
+    Op3::Save,
+    Op3::Restore,
+    Op3::Add,
+    Op3::Add,
+];
+
+/// The operation of op 2 with this op3, where there is one.
+#[inline]
+pub fn operation_of_op2(op3: u32) -> Op3
+    requires { op3 < 64 }
+    ensures { (o : Op3) → op_of o ≡ 2 → op3_of o ≡ op3 → o ≡ result }
+{
+    OPERATIONS_OF_OP2[op3 as usize]
+}
+
+/// The operation of op 3 with this op3, where there is one.
+#[inline]
+pub fn operation_of_op3(op3: u32) -> Op3
+    ensures { (o : Op3) → op_of o ≡ 3 → op3_of o ≡ op3 → o ≡ result }
+{
+    match op3 {
+        0x01 => Op3::Ldub,
+        0x04 => Op3::St,
+        0x05 => Op3::Stb,
+        _ => Op3::Ld,
+    }
+}
+
 /// The operation with these fields.
 pub fn operation(op: u32, op3: u32) -> Option<Op3>
     ensures found { IfSome result (λ o. (op_of o ≡ op) × (op3_of o ≡ op3)) }

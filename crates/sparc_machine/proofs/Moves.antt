@@ -1,6 +1,5 @@
 -- The rows of SAVE and RESTORE, as what they do to the window file.
-use Rattle.std.proofs.Common.{◌≡◌, ℕ, List, [], ◌∷◌, refl, ap, ◌∙◌, arith, Bool, true, false, not, ◌&&◌, nat_eq}
-use Rattle.std.specs.Prelude.{if◌then◌else◌}
+use Rattle.std.proofs.Common.{◌≡◌, ℕ, List, [], ◌∷◌, refl, ap, ◌∙◌, arith}
 use Rattle.std.proofs.Math.Path.{fun_ext}
 use Rattle.sparc_store.specs.Words.{Words}
 use Rattle.sparc_store.specs.Windows.{Stack, saved, restored, with_reg}

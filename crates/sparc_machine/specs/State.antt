@@ -1,6 +1,6 @@
 -- What a machine is: its memory, the registers in view, the older frames that are held, and its four special registers.
 -- SPARC Architecture Manual Version 8, chapter 4 (registers).
-use Rattle.std.specs.Prelude.{◌≡◌, ℕ, ◌+◌, ◌-◌, ◌^◌, ◌<◌, ◌≤◌, ◌&&◌, length, List, [], ◌∷◌, false, not, nat_eq, nat_lt, if◌then◌else◌, All}
+use Rattle.std.specs.Prelude.{◌≡◌, ℕ, ◌^◌, ◌<◌, ◌≤◌, length, List, [], ◌∷◌, false, All}
 use Rattle.sparc_store.specs.Words.{Words, IsWithin}
 use Rattle.sparc_store.specs.Chain.{IsFrame}
 use Rattle.sparc_store.specs.Windows.{Stack, saved_at, with_room, but_spilled}

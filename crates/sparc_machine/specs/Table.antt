@@ -1,6 +1,6 @@
 -- The instruction table: what each instruction does, and the condition under which it may be done.
 -- SPARC Architecture Manual Version 8, appendix B; delayed control transfer, chapter 5.
-use Rattle.std.specs.Prelude.{◌≡◌, ◌≢◌, ℕ, ◌+◌, ◌-◌, ◌*◌, ◌%◌, ◌^◌, ◌<◌, length, Bool, ◌&&◌, ℤ, pos, negsuc, if◌then◌else◌, nat_eq, bit_xor, FitsSigned}
+use Rattle.std.specs.Prelude.{◌≡◌, ◌≢◌, ℕ, ◌+◌, ◌-◌, ◌*◌, ◌%◌, ◌^◌, Bool, ◌&&◌, ℤ, pos, negsuc, if◌then◌else◌, nat_eq, bit_xor, FitsSigned}
 use Rattle.std.specs.Int.{w32, cast_unsigned}
 use Rattle.sparc_store.specs.Words.{word_at, with_word, byte_at, with_byte, HasWord, HasByte}
 use Rattle.sparc_insn.specs.declared.insn.Insn.{Insn}

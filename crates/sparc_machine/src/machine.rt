@@ -1,5 +1,5 @@
 // The machine, and what the host may do to it.
-ghost use Rattle.std.specs.Prelude.{◌≡◌, ◌<◌, ◌+◌, ◌^◌, ◌↔◌, ℕ, List, length, IsTrue};
+ghost use Rattle.std.specs.Prelude.{◌≡◌, ◌<◌, ◌≤◌, ◌%◌, ◌+◌, ◌^◌, ◌↔◌, ℕ, List, length, IsTrue};
 ghost use Rattle.std.specs.Borrow.{sem};
 ghost use Rattle.sparc_store.specs.Words.{word_at, with_word, byte_at, with_byte, HasWord, HasByte, HasFrame, with_frame, Framed};
 ghost use Rattle.sparc_store.specs.Windows.{CanSave, CanRestore, CanFlush, flushed, IsPlace, resumed};
@@ -122,6 +122,17 @@ impl Machine {
         self.memory.load(at)
     }
 
+    // The word at an address of the code region.
+    #[inline]
+    pub(crate) fn load_code(&self, at: u32) -> u32
+        requires aligned { at % 4 ≡ 0 }
+        requires from { 0x10000000 ≤ at }
+        requires to { at < 0x12000000 }
+        ensures { result ≡ word_at (state self.now).memory at }
+    {
+        self.memory.load_code(at)
+    }
+
     /// Puts a word at an address of a region that 4 divides.
     #[inline]
     pub fn store(&mut self, at: u32, word: u32)
@@ -233,6 +244,14 @@ impl Machine {
         ensures { result ≡ (state self.now).icc }
     {
         self.icc
+    }
+
+    // The condition codes, to be read one by one.
+    #[inline]
+    pub(crate) fn icc_now(&self) -> &Icc
+        ensures { result.now ≡ (state self.now).icc }
+    {
+        &self.icc
     }
 
     /// Puts other condition codes in place of those there.

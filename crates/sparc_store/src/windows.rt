@@ -259,17 +259,14 @@ fn is_place(at: u32) -> bool
     at % 4 == 0 && STACKS <= at && at < 0x4800_0000 && at % STACK_STRIDE <= LAST_FRAME
 }
 
-// Where a register from 8 to 31 stands behind the first word of its window.
+// Where a register from 8 to 31 stands behind the first word of its window: outs stand behind the locals and ins.
+#[inline]
 fn place(register: u8) -> usize
     requires from { 8 ≤ register }
     requires to { register < 32 }
     ensures { result ≡ place_of register }
 {
-    if register < 16 {
-        register as usize + 16
-    } else {
-        register as usize - 16
-    }
+    (register ^ 16) as usize
 }
 
 // Clears the locals of a window, and its outs, the ins of the next one.

@@ -17,3 +17,9 @@ pub mod Weights
 pub mod Spans
 pub mod DataIntegers
 pub mod SmallData
+mod ToldLemmas
+pub mod SetterNames
+pub mod Numbers
+pub mod Growth
+pub mod Loaded
+pub mod Whole

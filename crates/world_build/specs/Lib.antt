@@ -6,5 +6,7 @@ pub mod Loading
 pub mod Nodes
 pub mod Soundness
 pub mod Steps
+pub mod Telling
 pub mod Worlds
 pub mod Kinds
+pub mod Wholeness

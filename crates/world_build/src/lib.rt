@@ -17,12 +17,13 @@ mod members;
 mod nodes;
 mod refusals;
 mod slots;
+mod telling;
 mod things;
 mod values;
+mod wholeness;
 mod worlds;
 
 pub use cores::CoreName;
 pub use refusals::BuildRefusal;
-pub use slots::{Content, Slot, Slots};
-pub use things::{Bytes, Thing, Things};
+pub use wholeness::worlds_are_whole;
 pub use worlds::{World, load};

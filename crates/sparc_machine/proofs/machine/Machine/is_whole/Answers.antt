@@ -3,7 +3,7 @@ use Rattle.sparc_machine.specs.State.{AreWords, IsWhole}
 use Rattle.std.specs.Prelude.{All}
 use Rattle.sparc_store.specs.Words.{IsWithin}
 use Rattle.sparc_store.specs.Chain.{IsFrame}
-use Rattle.sparc_store.specs.Ring.{Ring, regs_of, older_of}
+use Rattle.sparc_store.specs.Ring.{regs_of, older_of}
 use Rattle.sparc_machine.specs.Held.{Held, state}
 use Rattle.sparc_machine.proofs.machine.Machine.is_whole.Goals as goal
 

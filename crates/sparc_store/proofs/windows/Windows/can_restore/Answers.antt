@@ -1,5 +1,5 @@
-use Rattle.std.proofs.Common.{◌≡◌, ◌<◌, refl, sym, ◌∙◌, ap, arith, length, []}
-use Rattle.sparc_store.specs.Ring.{Ring, older_of}
+use Rattle.std.proofs.Common.{refl, ap, arith, length}
+use Rattle.sparc_store.specs.Ring.{Ring}
 use Rattle.sparc_store.proofs.Rings.{length-older_of, no_older}
 use Rattle.sparc_store.proofs.windows.Windows.can_restore.Goals as goal
 

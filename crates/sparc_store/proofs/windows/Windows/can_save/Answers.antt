@@ -1,4 +1,4 @@
-use Rattle.std.proofs.Common.{◌≡◌, ◌≤◌, ◌<◌, length, refl, sym, ◌∙◌, ap, arith}
+use Rattle.std.proofs.Common.{◌≤◌, length, refl, ap, arith}
 use Rattle.sparc_store.specs.Ring.{Ring, older_of}
 use Rattle.sparc_store.proofs.Rings.{length-older_of}
 use Rattle.sparc_store.proofs.windows.Windows.can_save.Goals as goal
