@@ -9,7 +9,9 @@ use Rattle.sparc_store.specs.Words.{Words}
 use Rattle.sparc_insn.specs.declared.insn.Insn.{Insn}
 use Rattle.plain_words.specs.Going.{At, IsCodeFrom}
 use Rattle.plain_words.specs.Code.{poll}
-use Rattle.plain_words.specs.Units.{References, Point, node_code, nodes_code, node_points, nodes_points, entry_code, unit_code, unit_points, owns_context, frame_locals, is_call, times}
+use Rattle.plain_words.specs.declared.references.References.{References}
+use Rattle.plain_words.specs.declared.units.Point.{Point}
+use Rattle.plain_words.specs.Units.{node_code, nodes_code, node_points, nodes_points, entry_code, unit_code, unit_points, owns_context, frame_locals, is_call, times}
 use Rattle.plain_words.proofs.Basics.{at_front, at_behind}
 use Rattle.plain_runs.specs.Units.{words_before, node_offset, HasUnit}
 

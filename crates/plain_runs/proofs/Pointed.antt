@@ -10,7 +10,9 @@ use Rattle.source_model.specs.Soundness.{body_in}
 use Rattle.frame_walk.specs.Places.{Place, Slot, Descriptor, plain_descriptor, slots_from, pending_places, pending_offset, local_offset, holder_offset}
 use Rattle.frame_walk.specs.Walk.{IsInside, AreInside, Fits, IsFrameOf}
 use Rattle.plain_words.specs.Code.{poll}
-use Rattle.plain_words.specs.Units.{References, Point, node_code, nodes_code, node_points, nodes_points, entry_code, unit_code, unit_points, owns_context, frame_locals, frame_words, is_call, times, point_descriptor}
+use Rattle.plain_words.specs.declared.references.References.{References}
+use Rattle.plain_words.specs.declared.units.Point.{Point}
+use Rattle.plain_words.specs.Units.{node_code, nodes_code, node_points, nodes_points, entry_code, unit_code, unit_points, owns_context, frame_locals, frame_words, is_call, times, point_descriptor}
 use Rattle.plain_runs.specs.Host.{Host, first_unit, point_at, descriptor_at}
 use Rattle.plain_runs.specs.Units.{words_before, node_offset, HasUnit, IsPoll, IsInPoll, IsBehindCall}
 use Rattle.plain_runs.proofs.Located.{some_is, words_next, words_within, none_before, slice_front, slice_behind, times_is, times_long}

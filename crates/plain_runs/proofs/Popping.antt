@@ -23,7 +23,8 @@ use Rattle.plain_words.specs.Going.{Goes, At, StandsAt, IsCodeFrom}
 use Rattle.plain_words.specs.Code.{poll, answered_code, send_code, implied_code}
 use Rattle.plain_words.specs.Moves.{is_scratch, Ends, Returned, Moved, pended}
 use Rattle.plain_words.specs.Showing.{viewed}
-use Rattle.plain_words.specs.Units.{References, node_code, owns_context, frame_locals, frame_words, is_call}
+use Rattle.plain_words.specs.declared.references.References.{References}
+use Rattle.plain_words.specs.Units.{node_code, owns_context, frame_locals, frame_words, is_call}
 use Rattle.plain_words.proofs.Basics.{at_behind, goes_then}
 use Rattle.plain_words.proofs.Straight.{straight, goes_straight, straight_spares, straight_older}
 use Rattle.plain_words.proofs.Placing.{placed}

@@ -16,7 +16,7 @@ use Rattle.plain_words.specs.Going.{Goes, At, StandsAt, IsCodeFrom}
 use Rattle.plain_words.specs.Code.{poll}
 use Rattle.plain_words.specs.Moves.{IsReady, Does, Moved, pended}
 use Rattle.plain_words.specs.Showing.{viewed}
-use Rattle.plain_words.specs.Units.{References, node_code, nodes_code, entry_code, unit_code, owns_context, frame_locals, frame_words}
+use Rattle.plain_words.specs.Units.{node_code, nodes_code, entry_code, unit_code, owns_context, frame_locals, frame_words}
 use Rattle.plain_words.proofs.Basics.{at_behind}
 use Rattle.plain_words.proofs.Shown.{pended_shows, left_shows}
 use Rattle.plain_runs.specs.Course.{with_machine, AllRun, code_at, Follows, CanGo, PendedFollows, DroppedFollows}

@@ -11,7 +11,9 @@ use Rattle.sparc_machine.specs.State.{MachineState}
 use Rattle.source_model.specs.Soundness.{body_in}
 use Rattle.frame_walk.specs.Places.{Descriptor, Frame}
 use Rattle.frame_walk.specs.Walk.{activations}
-use Rattle.plain_words.specs.Units.{References, Point, point_descriptor, frame_locals}
+use Rattle.plain_words.specs.declared.references.References.{References}
+use Rattle.plain_words.specs.declared.units.Point.{Point}
+use Rattle.plain_words.specs.Units.{point_descriptor, frame_locals}
 use Rattle.frame_walk.specs.Raw.{Thread, Going, Answered as Answer, Failed as Failure, Raw}
 
 -- How an activity stands: its frames wait in its stack, the youngest where this begins and goes on, so many of them; or it has answered with

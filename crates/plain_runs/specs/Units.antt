@@ -7,7 +7,8 @@ use Rattle.sparc_store.specs.Words.{Words}
 use Rattle.source_model.specs.Soundness.{body_in}
 use Rattle.plain_words.specs.Going.{At, IsCodeFrom}
 use Rattle.plain_words.specs.Code.{poll}
-use Rattle.plain_words.specs.Units.{References, node_code, entry_code, unit_code, unit_points, owns_context, frame_locals, is_call}
+use Rattle.plain_words.specs.declared.references.References.{References}
+use Rattle.plain_words.specs.Units.{node_code, entry_code, unit_code, unit_points, owns_context, frame_locals, is_call}
 use Rattle.plain_runs.specs.Host.{Host, first_unit}
 
 -- how many words the first of these nodes take, which begin so many words behind the first of all over k pending values
