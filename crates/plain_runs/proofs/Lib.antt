@@ -1,0 +1,6 @@
+pub mod Located
+pub mod Pointed
+pub mod Keeping
+pub mod Working
+pub mod Ready
+pub mod Popping

@@ -1,0 +1,5 @@
+-- Plain code under its host.
+pub mod Host
+pub mod Units
+pub mod Sound
+pub mod Course

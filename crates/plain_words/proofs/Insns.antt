@@ -1,0 +1,245 @@
+-- The words of units are instructions of the table.
+use Rattle.std.proofs.Common.{◌≡◌, ℕ, zero, suc, ◌+◌, ◌-◌, ◌*◌, ◌^◌, ◌<◌, ◌≤◌, refl, subst, arith}
+use Rattle.std.specs.Prelude.{Some, Bool, true, false, List, [], ◌∷◌, ◌++◌, slice_get, length, map, ℤ, pos, negsuc}
+use Rattle.std.proofs.lemmas.Grind.{common_steps}
+use Rattle.self_terms.specs.declared.nodes.Node.{Node}
+use Rattle.self_terms.specs.declared.nodes.Node.TheVariants as nodes
+use Rattle.self_terms.specs.declared.bodies.Body.{Body}
+use Rattle.self_terms.specs.declared.bodies.Local.{Local}
+use Rattle.self_terms.specs.declared.values.Datum.{Datum}
+use Rattle.self_terms.specs.declared.values.Datum.TheVariants as datum
+use Rattle.self_terms.specs.Words.{IsSmall, word_of}
+use Rattle.self_terms.specs.Depths.{grown, depth, depth_from}
+use Rattle.sparc_insn.specs.declared.insn.Insn.{Insn}
+use Rattle.sparc_insn.specs.declared.insn.Insn.TheVariants.{Trap}
+use Rattle.sparc_insn.specs.Words.{IsInsn}
+use Rattle.frame_walk.specs.Places.{local_offset}
+use Rattle.plain_words.specs.declared.references.References.{References}
+use Rattle.plain_words.specs.Code.{poll, count, plus, holder_code, load, store, take, pend, constant_code, self_code, walk, reach, read_code, store_code, base_of, offset_of, arguments_code, send_code, implied_code, answered_code, return_code, non_local_code, argument_stores, initial_stores, kept_code, frame_code}
+use Rattle.plain_words.specs.Units.{node_code, restart_code, failing_code, nodes_code, entry_code, unit_code, datum_word, object_word, initial_words, frame_words, frame_locals, owns_context, deepest, larger}
+use Rattle.plain_words.specs.Translating.{IsShort, AreShort, IsSmallDatum, CanTranslate, AreWords}
+use Rattle.plain_words.specs.Putting.{AreInsns}
+use Rattle.plain_words.proofs.Long.{node_long}
+
+-- each by itself
+abbrev Each : List Insn → Type 0
+Each [] = Unit {0}
+Each (i ∷ is) = IsInsn i × Each is
+
+at_place : (code : List Insn) (j : ℕ) (i : Insn) → Each code → slice_get code j ≡ Some i → IsInsn i
+at_place [] j i h e = cc
+at_place (x ∷ xs) zero i h e = let P : Insn → Type 0 = IsInsn in let same : x ≡ i = cc in subst P same h.0
+at_place (x ∷ xs) (suc j) i h e = at_place xs j i h.1 e
+
+pub are : (code : List Insn) → Each code → AreInsns code
+are code h = record { each = λ j i e. at_place code j i h e }
+
+both : (a b : List Insn) → Each a → Each b → Each (a ++ b)
+both [] b h k = k
+both (i ∷ is) b h k = (h.0, both is b h.1 k)
+
+poll_each : Each poll
+poll_each = ((omega arith, omega arith), ((omega arith, omega arith, omega arith, tt), ((omega arith, omega arith, omega arith, tt), ((omega arith, omega arith), ((omega arith, omega arith), ((omega arith, omega arith), tt))))))
+
+count_is : IsInsn count
+count_is = (omega arith, omega arith, omega arith, tt)
+
+take_is : (to locals k : ℕ) → to < 32 → locals + k ≤ 512 → IsInsn (take to locals k)
+take_is to locals k t h = (omega arith, omega arith, omega arith, tt)
+
+pend_is : (from locals k : ℕ) → from < 32 → locals + k ≤ 512 → IsInsn (pend from locals k)
+pend_is from locals k t h = (omega arith, omega arith, omega arith, tt)
+
+constant_each : (locals k w : ℕ) → locals + k ≤ 512 → w < 2 ^ 32 → Each (constant_code locals k w)
+constant_each locals k w h s = ((omega arith, omega arith), ((omega arith, omega arith, omega arith, tt), (pend_is 1 locals k (omega arith) h, ((omega arith, omega arith, omega arith, tt), tt))))
+
+self_each : (locals k : ℕ) → locals + k ≤ 512 → Each (self_code locals k)
+self_each locals k h = (pend_is 24 locals k (omega arith) h, ((omega arith, omega arith, omega arith, tt), tt))
+
+walk_each : (n : ℕ) → Each (walk n)
+walk_each zero = tt
+walk_each (suc n) = ((omega arith, omega arith, omega arith, tt), walk_each n)
+
+reach_each : (up : ℕ) → Each (reach up)
+reach_each zero = tt
+reach_each (suc up) = ((omega arith, omega arith, omega arith, tt), walk_each up)
+
+base_small : (owns : Bool) (up : ℕ) → base_of owns up < 32
+base_small true zero = omega arith
+base_small false zero = omega arith
+base_small owns (suc up) = omega arith
+
+offset_small : (owns : Bool) (up slot : ℕ) → slot < 256 → offset_of owns up slot < 4096
+offset_small true zero slot h = omega arith
+offset_small false zero slot h = omega arith
+offset_small owns (suc up) slot h = omega arith
+
+load_is : (to base offset : ℕ) → to < 32 → base < 32 → offset < 4096 → IsInsn (load to base offset)
+load_is to base offset t b o = (t, b, omega arith, tt)
+
+store_is : (from base offset : ℕ) → from < 32 → base < 32 → offset < 4096 → IsInsn (store from base offset)
+store_is from base offset t b o = (t, b, omega arith, tt)
+
+read_each : (owns : Bool) (locals k up slot : ℕ) → locals + k ≤ 512 → slot < 256 → Each (read_code owns locals k up slot)
+read_each owns locals k up slot h s =
+    both (reach up) (load 1 (base_of owns up) (offset_of owns up slot) ∷ pend 1 locals k ∷ count ∷ []) (reach_each up)
+    (load_is 1 (base_of owns up) (offset_of owns up slot) (omega arith) (base_small owns up) (offset_small owns up slot s), (pend_is 1 locals k (omega arith) h, (count_is, tt)))
+
+store_each : (owns : Bool) (locals k up slot : ℕ) → locals + k ≤ 512 → slot < 256 → Each (store_code owns locals k up slot)
+store_each owns locals k up slot h s =
+    both (reach up) (take 5 locals k ∷ store 5 (base_of owns up) (offset_of owns up slot) ∷ pend 24 locals k ∷ count ∷ []) (reach_each up) (
+      take_is 5 locals k (omega arith) h,
+      (store_is 5 (base_of owns up) (offset_of owns up slot) (omega arith) (base_small owns up) (offset_small owns up slot s), (pend_is 24 locals k (omega arith) h, (count_is, tt))),
+    )
+
+arguments_each : (to locals k n : ℕ) → to + n ≤ 32 → locals + k + n ≤ 512 → Each (arguments_code to locals k n)
+arguments_each to locals k zero h r = tt
+arguments_each to locals k (suc n) h r = (take_is to locals k (omega arith) (omega arith), arguments_each (to + 1) locals (k + 1) n (omega arith) (omega arith))
+
+asks_is : IsInsn (Trap 1)
+asks_is = (omega arith, omega arith)
+
+send_each : (locals k args at : ℕ) → args ≤ 5 → locals + k + 6 ≤ 512 → locals + at ≤ 512 → Each (send_code locals k args ++ answered_code locals at)
+send_each locals k args at f h a =
+    both (send_code locals k args) (answered_code locals at)
+    (take_is 8 locals k (omega arith) (omega arith), both (arguments_code 9 locals (k + 1) args) (Trap 1 ∷ []) (arguments_each 9 locals (k + 1) args (omega arith) (omega arith)) (asks_is, tt))
+    (pend_is 8 locals at (omega arith) a, tt)
+
+implied_each : (locals k args at : ℕ) → args ≤ 5 → locals + k + 5 ≤ 512 → locals + at ≤ 512 → Each (implied_code locals k args ++ answered_code locals at)
+implied_each locals k args at f h a =
+    both (implied_code locals k args) (answered_code locals at)
+    ((omega arith, omega arith, omega arith, tt), both (arguments_code 9 locals k args) (Trap 1 ∷ []) (arguments_each 9 locals k args (omega arith) (omega arith)) (asks_is, tt))
+    (pend_is 8 locals at (omega arith) a, tt)
+
+return_each : (owns : Bool) (locals k : ℕ) → locals + k ≤ 512 → Each (return_code owns locals k)
+return_each true locals k h = (
+  take_is 24 locals k (omega arith) h,
+  (count_is, ((omega arith, omega arith, omega arith, tt), (store_is 0 17 7 (omega arith) (omega arith) (omega arith), ((omega arith, omega arith, omega arith, tt), ((omega arith, omega arith, omega arith, tt), tt))))),
+)
+return_each false locals k h = (
+  take_is 24 locals k (omega arith) h,
+  (count_is, ((omega arith, omega arith, omega arith, tt), ((omega arith, omega arith, omega arith, tt), ((omega arith, omega arith, omega arith, tt), tt)))),
+)
+
+non_local_each : (locals k : ℕ) → locals + k ≤ 512 → Each (non_local_code locals k)
+non_local_each locals k h = (take_is 8 locals k (omega arith) h, ((omega arith, omega arith), tt))
+
+restart_each : (back : ℕ) → 0 < back → back ≤ 2000000 → Each (restart_code back)
+restart_each back s h = ((omega arith, omega arith), (count_is, tt))
+
+failing_each : Each failing_code
+failing_each = ((omega arith, omega arith), tt)
+
+word_small : (z : ℤ) → IsSmall z → word_of z < 2 ^ 32
+word_small (pos n) h = omega arith
+word_small (negsuc n) h = omega arith
+
+bare_each : (r : References) (owns : Bool) (locals at : ℕ) (node : Node) (k : ℕ) → AreWords r → locals + k + 6 ≤ 512 → at < 90000 → IsShort 64 node → Each (node_code r owns locals at node k)
+bare_each r owns locals at (nodes.Int i) k w h n s = constant_each locals k (word_of i) (omega arith) (word_small i s)
+bare_each r owns locals at (nodes.Str o) k w h n s = constant_each locals k (object_word r o) (omega arith) (w.objects o)
+bare_each r owns locals at nodes.SelfRef k w h n s = self_each locals k (omega arith)
+bare_each r owns locals at nodes.Nil k w h n s = constant_each locals k r.nil (omega arith) w.nil
+bare_each r owns locals at (nodes.Read up slot) k w h n s = read_each owns locals k up slot (omega arith) s.1
+bare_each r owns locals at (nodes.Store up slot) k w h n s = store_each owns locals (k - 1) up slot (omega arith) s.1
+bare_each r owns locals at (nodes.Send sel) k w h n s = send_each locals (k - (sel.args + 1)) sel.args (k - (sel.args + 1)) s (omega arith) (omega arith)
+bare_each r owns locals at (nodes.SelfSend sel) k w h n s = implied_each locals (k - sel.args) sel.args (k - sel.args) s (omega arith) (omega arith)
+bare_each r owns locals at (nodes.Resend sel) k w h n s = implied_each locals (k - sel.args) sel.args (k - sel.args) s (omega arith) (omega arith)
+bare_each r owns locals at (nodes.Directed parent sel) k w h n s = implied_each locals (k - sel.args) sel.args (k - sel.args) s (omega arith) (omega arith)
+bare_each r owns locals at nodes.Drop k w h n s = (count_is, tt)
+bare_each r owns locals at nodes.Restart k w h n s = restart_each (at + 6) (omega arith) (omega arith)
+bare_each r owns locals at nodes.Return k w h n s = return_each owns locals (k - 1) (omega arith)
+bare_each r owns locals at nodes.NonLocal k w h n s = non_local_each locals (k - 1) (omega arith)
+bare_each r owns locals at nodes.End k w h n s = return_each owns locals (k - 1) (omega arith)
+bare_each r owns locals at (nodes.BlockLit b) k w h n s = failing_each
+bare_each r owns locals at (nodes.Prim name args implied handler) k w h n s = failing_each
+
+-- that many values are pending before a node, and before each behind it
+deep_here : (d : ℕ) (n : Node) (ns : List Node) → ((k : ℕ) → depth_from d (n ∷ ns) k ≤ 64) → d ≤ 64
+deep_here d n ns h = h 0
+
+near : (at n p : ℕ) → at + 74 * suc n ≤ 80000 → p ≤ 74 → at + p + 74 * n ≤ 80000
+near at n p h l = omega arith
+
+nodes_each : (r : References) (owns : Bool) (locals at d : ℕ) (ns : List Node) → AreWords r → locals + 70 ≤ 512 → at + 74 * length ns ≤ 80000 → ((k : ℕ) → depth_from d ns k ≤ 64) → AreShort 64 ns
+    → Each (nodes_code r owns locals at d ns)
+nodes_each r owns locals at d [] w l n deep short = tt
+nodes_each r owns locals at d (x ∷ xs) w l n deep short =
+    let here = deep_here d x xs deep in
+    let s : IsShort 64 x = short 0 x refl in
+    let P = poll ++ node_code r owns locals at x d in
+    let long : length P ≤ 74 = node_long 64 r owns locals at x d (omega arith) s in
+    both P (nodes_code r owns locals (at + length P) (grown x d) xs) (both poll (node_code r owns locals at x d) poll_each (bare_each r owns locals at x d w (omega arith) (omega arith) s))
+    (nodes_each r owns locals (at + length P) (grown x d) xs w l (near at (length xs) (length P) n long) (λ k. deep (suc k)) (λ k y e. short (suc k) y e))
+
+argument_each : (register slot n : ℕ) → register + n ≤ 32 → slot + n ≤ 512 → Each (argument_stores register slot n)
+argument_each register slot zero h r = tt
+argument_each register slot (suc n) h r = (store_is register 14 (local_offset slot) (omega arith) (omega arith) (omega arith), argument_each (register + 1) (slot + 1) n (omega arith) (omega arith))
+
+datum_small : (r : References) (d : Datum) → AreWords r → IsSmallDatum d → datum_word r d < 2 ^ 32
+datum_small r (datum.Integer i) w s = word_small i s
+datum_small r (datum.Object o) w s = w.objects o
+datum_small r datum.Nil w s = w.nil
+
+initial_each : (r : References) (slot : ℕ) (xs : List Local) → AreWords r → slot + length xs ≤ 512 → ((k : ℕ) (x : Local) → slice_get xs k ≡ Some x → IsSmallDatum x.initial) → Each (initial_stores slot (map (λ x. datum_word r x.initial) xs))
+initial_each r slot [] w h s = tt
+initial_each r slot (x ∷ xs) w h s =
+    let small = datum_small r x.initial w (s 0 x refl) in (
+      (omega arith, omega arith),
+      ((omega arith, omega arith, omega arith, tt), (store_is 1 14 (local_offset slot) (omega arith) (omega arith) (omega arith), initial_each r (slot + 1) xs w (omega arith) (λ k y e. s (suc k) y e))),
+    )
+
+-- the most pending values are those before some node
+larger_small : (a b : ℕ) → a ≤ 64 → b ≤ 64 → larger a b ≤ 64
+larger_small a b h k = grind (arith, common_steps)
+
+deepest_small : (d : ℕ) (ns : List Node) → ((k : ℕ) → depth_from d ns k ≤ 64) → deepest d ns ≤ 64
+deepest_small d [] h = h 0
+deepest_small d (n ∷ ns) h =
+    let first : d ≤ 64 = h 0 in
+    let rest : deepest (grown n d) ns ≤ 64 = deepest_small (grown n d) ns (λ k. h (suc k)) in
+    larger_small d (deepest (grown n d) ns) first rest
+
+locals_small : (b : Body) → length b.arguments ≤ 5 → length b.locals ≤ 64 → frame_locals b ≤ 69
+locals_small b h k = grind (arith, common_steps)
+
+frame_each : (words : ℕ) → 0 < words → words ≤ 1024 → Each (frame_code (4 * words))
+frame_each words s h = ((omega arith, omega arith, omega arith, tt), tt)
+
+deep_from : (b : Body) → CanTranslate b → (k : ℕ) → depth_from 0 b.nodes k ≤ 64
+unfolding depth
+deep_from b can k = can.deep k
+
+entry_each : (r : References) (b : Body) → AreWords r → CanTranslate b → Each (entry_code r b)
+entry_each r b w can =
+    let deep : deepest 0 b.nodes ≤ 64 = deepest_small 0 b.nodes (deep_from b can) in
+    let locals = locals_small b can.arguments can.locals in
+    let few = can.arguments in
+    let many = can.locals in
+    let n = length b.arguments in
+    both (frame_code (4 * frame_words b)) (holder_code ++ kept_code n (initial_words r b)) (frame_each (frame_words b) (omega arith) (omega arith)) (
+      (omega arith, omega arith, omega arith, tt),
+      (
+        (omega arith, omega arith),
+        (
+          (omega arith, omega arith, omega arith, tt),
+          (
+            store_is 5 14 104 (omega arith) (omega arith) (omega arith),
+            (
+              (omega arith, omega arith, omega arith, tt),
+              (
+                (omega arith, omega arith, omega arith, tt),
+                both (argument_stores 25 0 n) (initial_stores n (initial_words r b) ++ (plus 4 1 ∷ count ∷ [])) (argument_each 25 0 n (omega arith) (omega arith))
+                    (both (initial_stores n (initial_words r b)) (plus 4 1 ∷ count ∷ []) (initial_each r n b.locals w (omega arith) can.initial) ((omega arith, omega arith, omega arith, tt), (count_is, tt))),
+              ),
+            ),
+          ),
+        ),
+      ),
+    )
+
+pub unit_insns : (r : References) (b : Body) → AreWords r → CanTranslate b → AreInsns (unit_code r b)
+unit_insns r b w can =
+    let locals = locals_small b can.arguments can.locals in
+    let few = can.few in
+    are (unit_code r b) (both (entry_code r b) (nodes_code r (owns_context b) (frame_locals b) 0 0 b.nodes) (entry_each r b w can)
+    (nodes_each r (owns_context b) (frame_locals b) 0 0 b.nodes w (omega arith) (omega arith) (deep_from b can) can.short))

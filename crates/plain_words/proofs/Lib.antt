@@ -1,0 +1,14 @@
+pub mod Basics
+pub mod Straight
+pub mod Polls
+pub mod Placing
+pub mod Simple
+pub mod Reading
+pub mod Sending
+pub mod Returning
+pub mod Prologue
+pub mod Shown
+pub mod Growing
+pub mod Long
+pub mod Emitted
+pub mod Insns

@@ -1,0 +1,183 @@
+-- What the words of a node do, wherever they stand.
+use Rattle.std.specs.Prelude.{◌≡◌, ℕ, zero, suc, ◌+◌, ◌*◌, ◌%◌, ◌^◌, ◌<◌, ◌≤◌, Bool, true, false, not, nat_eq, nat_lt, nat_le, ◌||◌, ◌&&◌, if◌then◌else◌, List, [], ◌∷◌, ◌++◌, length}
+use Rattle.sparc_insn.specs.declared.insn.Insn.{Insn}
+use Rattle.sparc_store.specs.Words.{Words, word_at, with_word, HasFrame, IsWithin}
+use Rattle.sparc_store.specs.Windows.{IsPlace, frame_before, but_first, kept, with_room, but_spilled, CanSave}
+use Rattle.sparc_machine.specs.State.{MachineState, stack_of}
+use Rattle.sparc_machine.specs.Alu.{add, sub}
+use Rattle.plain_words.specs.Going.{Goes, IsTrap, At, StandsAt, IsCodeFrom}
+use Rattle.frame_walk.specs.Places.{holder_offset, local_offset, pending_offset}
+use Rattle.plain_words.specs.Code.{poll, base_of, offset_of, method_code}
+
+-- %g1, %g2, %g5, %g7 and the outs but %sp may change between polls; all else of a frame and of the activity's counts stays.
+abbrev pub is_scratch : ℕ → Bool
+is_scratch r = (nat_le 8 r && nat_lt r 14) || nat_eq r 15 || nat_eq r 1 || nat_eq r 2 || nat_eq r 5 || nat_eq r 7
+
+-- The machine is at the poll of a node, whose words stand there, with so many words of its frame above %sp, and a step is left of the goal.
+pub record IsReady (m : MachineState) (p words : ℕ) (code : List Insn) : Type 0 where
+  pub stands : StandsAt m p
+  pub code_region : IsCodeFrom p (length (poll ++ code))
+  pub code_there : At m.memory p (poll ++ code)
+  pub frame : HasFrame (m.regs 14) words
+  pub left : m.regs 2 < word_at m.memory 0x30000000
+
+-- a machine that has gone on to an address, with this memory, this count of steps and the same frame in view
+pub record Moved (m to : MachineState) (p : ℕ) (memory : Words) (steps : ℕ) : Type 0 where
+  pub stands : StandsAt to p
+  pub memory_is : to.memory ≡ memory
+  pub counted : to.regs 2 ≡ steps
+  pub kept : (r : ℕ) → is_scratch r ≡ false → to.regs r ≡ m.regs r
+  pub older : to.older ≡ m.older
+
+-- the node is done in words: so many instructions lead to the next poll, with this memory and one more step counted
+pub record Does (m : MachineState) (p : ℕ) (code : List Insn) (memory : Words) : Type 0 where
+  pub instructions : ℕ
+  pub to : MachineState
+  pub goes : Goes instructions m to
+  pub moved : Moved m to (p + 4 * length (poll ++ code)) memory ((m.regs 2 + 1) % 2 ^ 32)
+
+-- memory with a word pended as number k, over so many locals in the frame
+abbrev pub pended : MachineState → ℕ → ℕ → ℕ → Words
+pended m locals k word = with_word m.memory (m.regs 14 + pending_offset locals k) word
+
+-- a context from its reference on, with so many words behind its first four: its addresses lie in the heap
+pub record IsContext (context locals : ℕ) : Type 0 where
+  pub tagged : context % 4 ≡ 1
+  pub from : 0x20000001 ≤ context
+  pub to : context + 15 + 4 * locals ≤ 0x20000000 + 46137344
+
+-- the context so many contexts around one
+abbrev pub around : Words → ℕ → ℕ → ℕ
+around memory zero context = context
+around memory (suc up) context = around memory up (word_at memory (context + 3))
+
+-- each context on the way outwards is one, and the last has so many words
+abbrev pub AreAround : Words → ℕ → ℕ → ℕ → Type 0
+AreAround memory zero context locals = IsContext context locals
+AreAround memory (suc up) context locals = IsContext context 0 × AreAround memory up (word_at memory (context + 3)) locals
+
+-- where a local stands that is `up` bodies out: in the frame, in the own context, or in that of a body around
+abbrev pub local_address : MachineState → Bool → ℕ → ℕ → ℕ
+local_address m owns zero slot = m.regs (base_of owns zero) + offset_of owns zero slot
+local_address m owns (suc up) slot = around m.memory up (m.regs 16) + offset_of owns (suc up) slot
+
+-- that place is there
+abbrev pub HasLocal : MachineState → ℕ → Bool → ℕ → ℕ → Type 0
+HasLocal m words false zero slot = 27 + slot < words
+HasLocal m words true zero slot = IsContext (m.regs 17) (slot + 1)
+HasLocal m words owns (suc up) slot = AreAround m.memory up (m.regs 16) (slot + 1)
+
+-- memory with a word put for a local, and then one pended in the place of the value that was taken
+abbrev pub assigned : MachineState → Bool → ℕ → ℕ → ℕ → ℕ → Words
+assigned m owns locals k up slot =
+    with_word (with_word m.memory (local_address m owns up slot) (word_at m.memory (m.regs 14 + pending_offset locals k))) (m.regs 14 + pending_offset locals k) (m.regs 24)
+
+-- registers from one on hold so many pending words in turn, from a number on
+abbrev pub AreArguments : MachineState → MachineState → ℕ → ℕ → ℕ → ℕ → Type 0
+AreArguments m to register locals k zero = Unit {0}
+AreArguments m to register locals k (suc n) = (to.regs register ≡ word_at m.memory (m.regs 14 + pending_offset locals k)) × AreArguments m to (register + 1) locals (k + 1) n
+
+-- The node asks for a service: so many instructions lead to the trap, whose address this is. Nothing has changed but scratch registers: the
+-- receiver stands in %o0, and arguments, the first of which is number k of the pending values, from %o1 on.
+pub record Asks (m : MachineState) (service at receiver locals k args : ℕ) : Type 0 where
+  pub instructions : ℕ
+  pub to : MachineState
+  pub goes : Goes instructions m to
+  pub trap : IsTrap service to
+  pub moved : Moved m to at m.memory (m.regs 2)
+  pub receiver_is : to.regs 8 ≡ receiver
+  pub arguments : AreArguments m to 9 locals k args
+
+-- the machine in the caller's frame, at the address behind the call: what is in view is the older frame, its %o0 is the answer, and one
+-- step more and one activation less are counted
+pub record Returned (m to : MachineState) (memory : Words) (answer : ℕ) : Type 0 where
+  pub stands : StandsAt to (add (m.regs 31) 8)
+  pub memory_is : to.memory ≡ memory
+  pub answer_is : to.regs 8 ≡ answer
+  pub counted : to.regs 2 ≡ (m.regs 2 + 1) % 2 ^ 32
+  pub activations : to.regs 4 ≡ sub (m.regs 4) 1
+  pub cost : to.regs 3 ≡ m.regs 3
+  pub top : to.regs 6 ≡ m.regs 6
+  pub register_0 : to.regs 0 ≡ m.regs 0
+  pub frame : to.regs 14 ≡ m.regs 30
+  pub view : (k : ℕ) → k < 16 → to.regs (16 + k) ≡ frame_before memory (m.regs 30) m.older k
+  pub older : to.older ≡ but_first m.older
+
+-- the activation ends: so many instructions lead to the caller's frame
+pub record Ends (m : MachineState) (memory : Words) (answer : ℕ) : Type 0 where
+  pub instructions : ℕ
+  pub to : MachineState
+  pub goes : Goes instructions m to
+  pub returned : Returned m to memory answer
+
+-- memory when an activation ends: its context, if it has one, has the mark 0, which is what register 0 holds
+abbrev pub unmarked : MachineState → Bool → Words
+unmarked m false = m.memory
+unmarked m true = with_word m.memory (m.regs 17 + 7) (m.regs 0)
+
+abbrev pub HasContext : MachineState → Bool → Type 0
+HasContext m false = Unit {0}
+HasContext m true = IsContext (m.regs 17) 0
+
+-- The frame in view can be left: its return address is that of a word of the code region, 8 bytes before it, and its caller's frame has its
+-- place in a stack, where it isn't held.
+pub record CanReturn (m : MachineState) : Type 0 where
+  pub aligned : add (m.regs 31) 8 % 4 ≡ 0
+  pub within : add (m.regs 31) 8 < 0x12000000
+  pub place : m.older ≡ [] → IsPlace (m.regs 30)
+
+-- memory with words put from an address on
+abbrev pub with_words : Words → ℕ → List ℕ → Words
+with_words memory at [] = memory
+with_words memory at (w ∷ ws) = with_words (with_word memory at w) (at + 4) ws
+
+-- the words of so many registers from one on
+abbrev pub registers_from : (ℕ → ℕ) → ℕ → ℕ → List ℕ
+registers_from regs r zero = []
+registers_from regs r (suc n) = regs r ∷ registers_from regs (r + 1) n
+
+-- a method's holder as it is handed over
+abbrev pub handed_holder : MachineState → ℕ
+handed_holder m = if nat_eq (m.regs 5) 0 then m.regs 8 else m.regs 5
+
+-- A method can be entered: the machine stands at its words, and there is room for its frame of so many words below the frame in view.
+pub record CanEnter (m : MachineState) (p words arguments : ℕ) (initial : List ℕ) : Type 0 where
+  pub stands : StandsAt m p
+  pub code_region : IsCodeFrom p (length (method_code (4 * words) arguments initial))
+  pub code_there : At m.memory p (method_code (4 * words) arguments initial)
+  pub few : arguments ≤ 5
+  pub room : 27 + arguments + length initial ≤ words
+  pub place : ℕ
+  pub below : m.regs 14 ≡ place + 4 * words
+  pub frame : HasFrame place words
+  pub can_save : CanSave (stack_of m)
+  pub within : IsWithin m.memory
+  pub register_0 : m.regs 0 ≡ 0
+
+-- what it keeps in its frame
+abbrev pub entered_memory : MachineState → ℕ → ℕ → List ℕ → Words
+entered_memory m place arguments initial =
+    with_words (with_word (with_room m.memory (m.regs 30) m.older) (place + holder_offset) (handed_holder m)) (place + local_offset 0) (registers_from m.regs 9 arguments ++ initial)
+
+-- a method was entered: its frame is in view, that of its caller is the youngest of the older ones
+pub record Entered (m to : MachineState) (p place : ℕ) (memory : Words) : Type 0 where
+  pub stands : StandsAt to p
+  pub memory_is : to.memory ≡ memory
+  pub receiver : to.regs 24 ≡ m.regs 8
+  pub outer : to.regs 16 ≡ 0
+  pub context : to.regs 17 ≡ 0
+  pub frame : to.regs 14 ≡ place
+  pub caller : to.regs 30 ≡ m.regs 14
+  pub returns : to.regs 31 ≡ m.regs 15
+  pub counted : to.regs 2 ≡ (m.regs 2 + 1) % 2 ^ 32
+  pub activations : to.regs 4 ≡ (m.regs 4 + 1) % 2 ^ 32
+  pub cost : to.regs 3 ≡ m.regs 3
+  pub top : to.regs 6 ≡ m.regs 6
+  pub older : to.older ≡ kept m.regs ∷ but_spilled m.older
+
+-- so many instructions lead into the method
+pub record Enters (m : MachineState) (p place : ℕ) (memory : Words) : Type 0 where
+  pub instructions : ℕ
+  pub to : MachineState
+  pub goes : Goes instructions m to
+  pub entered : Entered m to p place memory

@@ -1,0 +1,254 @@
+//! The words of each kind of node, behind those that there are.
+ghost use Rattle.std.specs.Prelude.{◌≡◌, ◌++◌, ◌+◌, ◌-◌, ◌*◌, ◌≤◌, ◌<◌, OnOk};
+ghost use Rattle.plain_words.specs.Code.{poll, set_word, constant_code, self_code, read_code, store_code, reach, walk, arguments_code, send_code, implied_code, answered_code, return_code, non_local_code, ended_context};
+ghost use Rattle.plain_words.specs.Units.{node_code, restart_code, failing_code};
+ghost use Rattle.plain_words.specs.Translating.{IsShort};
+
+use crate::instructions::{
+    base_of, copy, count, load, offset_of, pend, poll, store, take, with_number, with_register,
+};
+use crate::references::References;
+use self_terms::{Node, OutOfMemory, word_of_int};
+use sparc_insn::{Insn, Op3};
+
+// Instructions behind those that there are.
+pub(crate) fn put(code: &mut Vec<Insn>, more: &[Insn]) -> Result<(), OutOfMemory>
+    ensures { OnOk result (code.new.items ≡ code.old.items ++ more.now) }
+{
+    code.extend_from_slice(more)
+}
+
+// A word of 32 bits into a register.
+pub(crate) fn word_into(register: u8, word: u32) -> [Insn; 2]
+    ensures { result ≡ set_word register word }
+{
+    [
+        Insn::Sethi {
+            rd: register,
+            imm: word / 1024,
+        },
+        with_number(Op3::Or, register, register, (word % 1024) as i32),
+    ]
+}
+
+fn put_constant(code: &mut Vec<Insn>, locals: u32, k: u32, word: u32) -> Result<(), OutOfMemory>
+    requires { locals + k ≤ 512 }
+    ensures { OnOk result (code.new.items ≡ code.old.items ++ constant_code locals k word) }
+{
+    put(code, &word_into(1, word))?;
+    put(code, &[pend(1, locals, k), count()])
+}
+
+fn put_self(code: &mut Vec<Insn>, locals: u32, k: u32) -> Result<(), OutOfMemory>
+    requires { locals + k ≤ 512 }
+    ensures { OnOk result (code.new.items ≡ code.old.items ++ self_code locals k) }
+{
+    put(code, &[pend(24, locals, k), count()])
+}
+
+// So many contexts outwards from that in %g1.
+fn put_walk(code: &mut Vec<Insn>, up: u8) -> Result<(), OutOfMemory>
+    ensures { OnOk result (code.new.items ≡ code.old.items ++ walk up) }
+{
+    for _at in 0..up {
+        put(code, &[load(1, 1, 3)])?;
+    }
+    Ok(())
+}
+
+fn put_reach(code: &mut Vec<Insn>, up: u8) -> Result<(), OutOfMemory>
+    ensures { OnOk result (code.new.items ≡ code.old.items ++ reach up) }
+{
+    if up == 0 {
+        return Ok(());
+    }
+    put(code, &[copy(1, 16)])?;
+    put_walk(code, up - 1)
+}
+
+fn put_read(
+    code: &mut Vec<Insn>,
+    owns: bool,
+    locals: u32,
+    k: u32,
+    up: u8,
+    slot: u8,
+) -> Result<(), OutOfMemory>
+    requires { locals + k ≤ 512 }
+    ensures { OnOk result (code.new.items ≡ code.old.items ++ read_code owns locals k up slot) }
+{
+    put_reach(code, up)?;
+    let value = load(1, base_of(owns, up), offset_of(owns, up, slot));
+    put(code, &[value, pend(1, locals, k), count()])
+}
+
+fn put_store(
+    code: &mut Vec<Insn>,
+    owns: bool,
+    locals: u32,
+    k: u32,
+    up: u8,
+    slot: u8,
+) -> Result<(), OutOfMemory>
+    requires { locals + k ≤ 512 }
+    ensures { OnOk result (code.new.items ≡ code.old.items ++ store_code owns locals k up slot) }
+{
+    put_reach(code, up)?;
+    let set = store(5, base_of(owns, up), offset_of(owns, up, slot));
+    put(
+        code,
+        &[take(5, locals, k), set, pend(24, locals, k), count()],
+    )
+}
+
+// So many arguments, the first of which is number k of the pending values, to the outs from %o1 on.
+fn put_arguments(code: &mut Vec<Insn>, locals: u32, k: u32, args: u8) -> Result<(), OutOfMemory>
+    requires few { args ≤ 5 }
+    requires room { locals + k + 5 ≤ 512 }
+    ensures { OnOk result (code.new.items ≡ code.old.items ++ arguments_code 9 locals k args) }
+{
+    for at in 0..args {
+        put(code, &[take(9 + at, locals, k + at as u32)])?;
+    }
+    Ok(())
+}
+
+// A message to a stated receiver, number k of the pending values, and the answer in its place.
+fn put_send(code: &mut Vec<Insn>, locals: u32, k: u32, args: u8) -> Result<(), OutOfMemory>
+    requires few { args ≤ 5 }
+    requires room { locals + k + 6 ≤ 512 }
+    ensures { OnOk result (code.new.items ≡ code.old.items ++ (send_code locals k args ++ answered_code locals k)) }
+{
+    put(code, &[take(8, locals, k)])?;
+    put_arguments(code, locals, k + 1, args)?;
+    put(code, &[Insn::Trap { number: 1 }, pend(8, locals, k)])
+}
+
+// A message to the activation's own receiver, with the first argument as number k.
+fn put_implied(code: &mut Vec<Insn>, locals: u32, k: u32, args: u8) -> Result<(), OutOfMemory>
+    requires few { args ≤ 5 }
+    requires room { locals + k + 5 ≤ 512 }
+    ensures { OnOk result (code.new.items ≡ code.old.items ++ (implied_code locals k args ++ answered_code locals k)) }
+{
+    put(code, &[copy(8, 24)])?;
+    put_arguments(code, locals, k, args)?;
+    put(code, &[Insn::Trap { number: 1 }, pend(8, locals, k)])
+}
+
+fn put_ended(code: &mut Vec<Insn>, owns: bool) -> Result<(), OutOfMemory>
+    ensures { OnOk result (code.new.items ≡ code.old.items ++ ended_context owns) }
+{
+    if owns {
+        return put(code, &[store(0, 17, 7)]);
+    }
+    Ok(())
+}
+
+fn put_return(code: &mut Vec<Insn>, owns: bool, locals: u32, k: u32) -> Result<(), OutOfMemory>
+    requires { locals + k ≤ 512 }
+    ensures { OnOk result (code.new.items ≡ code.old.items ++ return_code owns locals k) }
+{
+    put(
+        code,
+        &[take(24, locals, k), count(), with_number(Op3::Sub, 4, 4, 1)],
+    )?;
+    put_ended(code, owns)?;
+    put(
+        code,
+        &[
+            with_number(Op3::Jmpl, 0, 31, 8),
+            with_register(Op3::Restore, 0, 0, 0),
+        ],
+    )
+}
+
+fn put_non_local(code: &mut Vec<Insn>, locals: u32, k: u32) -> Result<(), OutOfMemory>
+    requires { locals + k ≤ 512 }
+    ensures { OnOk result (code.new.items ≡ code.old.items ++ non_local_code locals k) }
+{
+    put(code, &[take(8, locals, k), Insn::Trap { number: 4 }])
+}
+
+// Back over so many words.
+fn put_restart(code: &mut Vec<Insn>, back: u32) -> Result<(), OutOfMemory>
+    requires some { 0 < back }
+    requires few { back ≤ 100000 }
+    ensures { OnOk result (code.new.items ≡ code.old.items ++ restart_code back) }
+{
+    let branch = Insn::Branch {
+        annul: false,
+        cond: 8,
+        disp: -(back as i32),
+    };
+    put(code, &[branch, count()])
+}
+
+// The words of a node behind its poll, which stands `at` words behind that of the first node, over k pending values.
+fn put_bare(
+    code: &mut Vec<Insn>,
+    references: &References,
+    owns: bool,
+    locals: u32,
+    at: u32,
+    node: Node,
+    k: u32,
+) -> Result<(), OutOfMemory>
+    requires room { locals + k + 6 ≤ 512 }
+    requires near { at < 90000 }
+    requires short { IsShort 64 node }
+    ensures { OnOk result (code.new.items ≡ code.old.items ++ node_code references.now owns locals at node k) }
+{
+    match node {
+        Node::Int(int) => put_constant(code, locals, k, word_of_int(int)),
+        Node::Str(object) => put_constant(code, locals, k, references.word(object)),
+        Node::Nil => put_constant(code, locals, k, references.nil),
+        Node::SelfRef => put_self(code, locals, k),
+        Node::Read { up, slot } => put_read(code, owns, locals, k, up, slot),
+        Node::Store { up, slot } => put_store(code, owns, locals, k.saturating_sub(1), up, slot),
+        Node::Send(sel) => put_send(
+            code,
+            locals,
+            k.saturating_sub(sel.args as u32 + 1),
+            sel.args,
+        ),
+        Node::SelfSend(sel) => put_implied(
+            code,
+            locals,
+            k.saturating_sub(sel.args as u32),
+            sel.args,
+        ),
+        Node::Resend(sel) => put_implied(code, locals, k.saturating_sub(sel.args as u32), sel.args),
+        Node::Directed { sel, .. } => put_implied(
+            code,
+            locals,
+            k.saturating_sub(sel.args as u32),
+            sel.args,
+        ),
+        Node::Drop => put(code, &[count()]),
+        Node::Restart => put_restart(code, at + 6),
+        Node::Return => put_return(code, owns, locals, k.saturating_sub(1)),
+        Node::NonLocal => put_non_local(code, locals, k.saturating_sub(1)),
+        Node::End => put_return(code, owns, locals, k.saturating_sub(1)),
+        Node::BlockLit(_) => put(code, &[Insn::Trap { number: 8 }]),
+        Node::Prim { .. } => put(code, &[Insn::Trap { number: 8 }]),
+    }
+}
+
+// The words of a node, its poll before them.
+pub(crate) fn put_node(
+    code: &mut Vec<Insn>,
+    references: &References,
+    owns: bool,
+    locals: u32,
+    at: u32,
+    node: Node,
+    k: u32,
+) -> Result<(), OutOfMemory>
+    requires room { locals + k + 6 ≤ 512 }
+    requires near { at < 90000 }
+    requires short { IsShort 64 node }
+    ensures { OnOk result (code.new.items ≡ code.old.items ++ (poll ++ node_code references.now owns locals at node k)) }
+{
+    put(code, &poll())?;
+    put_bare(code, references, owns, locals, at, node, k)
+}
