@@ -12,7 +12,7 @@ use Rattle.source_model.specs.Names.{number_of}
 use Rattle.world_build.specs.Soundness.{IsSound}
 use Rattle.world_build.specs.Worlds.{lobby_method}
 use Rattle.world_build.proofs.Runnable.{accepted_sound}
-use Rattle.world_image.proofs.SmallSigns.{small_signs}
+use Rattle.world_facts.proofs.SmallSigns.{small_signs}
 use Rattle.self_debugger.specs.WorldFiles.{run_body}
 use Rattle.self_debugger.specs.Headline.{IsMain}
 use Rattle.self_debugger.proofs.OneWorld.{text_read}

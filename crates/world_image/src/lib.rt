@@ -1,14 +1,10 @@
-// Worlds in the heap: maps, and the words of objects.
+// The world of a text, with its maps and words.
 //
-// Model: `specs/Layout.antt` says where objects stand, `specs/Kinds.antt` what map an object of slots has, `specs/Images.antt`
-// which maps a world has and which words. `specs/Built.antt` says what the layout needs of a world.
-// Promise: `build` gives the world that the items of a text build, with exactly these maps and words, or the first refusal.
+// Promise: `build` gives the world that the items of a text build, with exactly its maps and words, or the first refusal. Of each such
+// world it is known that it fits and is whole, so that its words are a heap that stands for its objects (`put` of world_heap).
 #![tactic(auto)]
 
 mod building;
-mod kinds;
-mod layout;
-mod packing;
-mod words;
 
-pub use building::{WorldImage, build, image_of};
+pub use building::build;
+pub use world_heap::WorldImage;

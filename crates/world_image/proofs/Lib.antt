@@ -1,9 +1,0 @@
-pub mod Fronts
-pub mod LayoutLemmas
-pub mod KindLemmas
-pub mod ThingLemmas
-pub mod WordCounts
-pub mod TextLens
-pub mod SmallSigns
-pub mod Modest
-pub mod Standing

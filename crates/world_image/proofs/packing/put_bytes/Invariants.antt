@@ -1,6 +1,0 @@
-use Rattle.std.proofs.Common.{◌≡◌, ◌++◌, ◌+◌, ◌-◌, ◌*◌, ◌/◌, drop, length}
-use Rattle.world_image.specs.Images.{packed_in, packed}
-use Rattle.world_image.proofs.packing.put_bytes.Given as goal
-
-abbrev pub invariant-loop-at : goal.invariant-loop-at
-invariant-loop-at l = l.words.items ++ packed_in ((length l.bytes + 3) / 4 - l.at) (drop (4 * l.at) l.bytes) ≡ l.fn.words.items ++ packed l.bytes

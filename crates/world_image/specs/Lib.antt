@@ -1,6 +1,0 @@
-pub mod Layout
-pub mod Kinds
-pub mod Images
-pub mod Built
-pub mod Steps
-pub mod Stands
