@@ -9,7 +9,11 @@ use Rattle.sparc_insn.specs.Words.{IsInsn, word_of}
 use Rattle.sparc_insn.proofs.RoundTrip.{decodes}
 use Rattle.sparc_store.specs.Words.{Words, word_at, Stored}
 use Rattle.plain_words.specs.Going.{At}
-use Rattle.plain_words.specs.Putting.{EachAt, Apart}
+use Rattle.plain_words.specs.Putting.{Apart}
+
+-- the first n of these instructions stand from an address on
+pub record EachAt (memory : Words) (at n : ℕ) (code : List Insn) : Type 0 where
+  pub each : (j : ℕ) → j < n → instruction (word_at memory (at + 4 * j)) ≡ slice_get code j
 
 pub each_none : (memory : Words) (at : ℕ) (code : List Insn) → EachAt memory at 0 code
 each_none memory at code = record { each = λ j lt. absurd (omega arith) }

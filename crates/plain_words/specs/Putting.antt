@@ -1,17 +1,12 @@
 -- Instructions are put into memory one after the other.
 use Rattle.std.specs.Prelude.{◌≡◌, ◌⊎◌, ℕ, ◌+◌, ◌*◌, ◌<◌, ◌≤◌, List, Some, slice_get}
 use Rattle.sparc_insn.specs.declared.insn.Insn.{Insn}
-use Rattle.sparc_insn.specs.Instructions.{instruction}
 use Rattle.sparc_insn.specs.Words.{IsInsn}
 use Rattle.sparc_store.specs.Words.{Words, word_at}
 
 -- all are instructions of the table
 pub record AreInsns (code : List Insn) : Type 0 where
   pub each : (j : ℕ) (i : Insn) → slice_get code j ≡ Some i → IsInsn i
-
--- the first n of these instructions stand from an address on
-pub record EachAt (memory : Words) (at n : ℕ) (code : List Insn) : Type 0 where
-  pub each : (j : ℕ) → j < n → instruction (word_at memory (at + 4 * j)) ≡ slice_get code j
 
 -- the words outside n words from an address on are as they were
 pub record Apart (old new : Words) (at n : ℕ) : Type 0 where

@@ -2,7 +2,7 @@
 ghost use Rattle.std.specs.Prelude.{◌≡◌, ◌⊎◌, ◌≤◌, ◌<◌, ◌+◌, ◌*◌, ◌%◌, length, ℕ};
 ghost use Rattle.sparc_store.specs.Words.{word_at, IsWithin};
 ghost use Rattle.plain_words.specs.Going.{At};
-ghost use Rattle.plain_words.specs.Putting.{AreInsns, EachAt, Apart};
+ghost use Rattle.plain_words.specs.Putting.{AreInsns, Apart};
 
 use sparc_insn::{Insn, encode};
 use sparc_store::Memory;

@@ -1,4 +1,9 @@
 // The words of plain code.
+//
+// Model: the words of a node and of the entry of a body (specs/Code.antt), those of a body, which are its unit, and what each of them says of
+// the frame (specs/Units.antt).
+// Promise: `unit_of` gives exactly these for every body of `CanTranslate`, and `put_code` puts them into memory and nothing else. Laws: what
+// the words of each node do, that they are instructions of the table, and how many they are.
 #![tactic(auto)]
 
 mod bounds;

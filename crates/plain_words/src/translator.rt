@@ -4,6 +4,7 @@ ghost use Rattle.self_terms.specs.Depths.{taken, left_by, grown};
 ghost use Rattle.self_terms.specs.declared.bodies.Local.{Local};
 ghost use Rattle.plain_words.specs.Code.{poll, frame_code, holder_code, kept_code, argument_stores, initial_stores};
 ghost use Rattle.plain_words.specs.Units.{owns_context, frame_locals, frame_words, deepest, larger, is_block_literal, initial_words, entry_code, unit_code, node_code, datum_word, unit_points, node_points, is_call, times};
+ghost use Rattle.plain_words.specs.Putting.{AreInsns};
 ghost use Rattle.plain_words.specs.Translating.{CanTranslate, IsShort, IsSmallDatum};
 
 use crate::instructions::{copy, count, local_offset, plus_one, store, with_number};
@@ -283,8 +284,8 @@ fn node_at(body: &Body, k: usize) -> Node
     }
 }
 
-/// The unit of a body, and for each of its words what it says of the frame, with the number of the body.
-pub fn unit_of(
+// The unit of a body, with the number of the body in its points.
+fn translate(
     alloc: Global,
     references: &References,
     number: u32,
@@ -317,5 +318,23 @@ pub fn unit_of(
         )?;
         over = grown(node, over);
     }
+    Ok(unit)
+}
+
+/// The unit of a body, and for each of its words what it says of the frame, with the number of the body. Every word is an instruction of the
+/// table.
+pub fn unit_of(
+    alloc: Global,
+    references: &References,
+    number: u32,
+    body: &Body,
+) -> Result<Unit, OutOfMemory>
+    requires { CanTranslate body.now }
+    ensures code { IfOk result (λ u. u.code.items ≡ unit_code references.now body.now) }
+    ensures points { IfOk result (λ u. u.points.items ≡ unit_points references.now number body.now) }
+    ensures insns { IfOk result (λ u. AreInsns u.code.items) }
+{
+    references.are_words();
+    let unit = translate(alloc, references, number, body)?;
     Ok(unit)
 }

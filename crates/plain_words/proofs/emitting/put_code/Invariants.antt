@@ -1,4 +1,5 @@
-use Rattle.plain_words.specs.Putting.{EachAt, Apart}
+use Rattle.plain_words.specs.Putting.{Apart}
+use Rattle.plain_words.proofs.Emitted.{EachAt}
 use Rattle.plain_words.proofs.emitting.put_code.Given as goal
 
 abbrev pub invariant-loop-j : goal.invariant-loop-j

@@ -2,7 +2,7 @@ use Rattle.std.proofs.Common.{◌≡◌, ◌≤◌, ◌*◌, drop}
 use Rattle.std.specs.Prelude.{◌++◌}
 use Rattle.self_terms.specs.Depths.{depth}
 use Rattle.plain_words.specs.Units.{unit_code, unit_points, nodes_code, nodes_points}
-use Rattle.plain_words.proofs.translator.unit_of.Given as goal
+use Rattle.plain_words.proofs.translator.translate.Given as goal
 
 abbrev pub invariant-loop-k : goal.invariant-loop-k
 invariant-loop-k l = record {
