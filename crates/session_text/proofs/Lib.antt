@@ -1,0 +1,6 @@
+pub mod Parts
+pub mod WordSteps
+pub mod Numbers
+pub mod Paths
+pub mod LineSteps
+pub mod Telling
