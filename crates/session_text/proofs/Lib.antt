@@ -4,3 +4,4 @@ pub mod Numbers
 pub mod Paths
 pub mod LineSteps
 pub mod Telling
+pub mod Shown

@@ -3,3 +3,4 @@ pub mod Commands
 pub mod Scripts
 pub mod Edits
 pub mod Telling
+pub mod LineTexts

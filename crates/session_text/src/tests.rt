@@ -23,3 +23,12 @@ fn a_line_that_is_no_command_is_named(rt: HostRuntime) {
         Err(why) => assert!(rt; why == ScriptErr::BadCommand(2)),
     }
 }
+
+#[test]
+fn a_line_is_written(rt: HostRuntime) {
+    let mut line = Line::open(rt.alloc()).expect(&rt, "room");
+    line.put(&LineText::Out(b"a\\\x7f"));
+    assert!(rt; line.bytes() == "out a\\\\\\x7f\n".as_bytes());
+    line.put(&LineText::Fixed("refused past"));
+    assert!(rt; line.bytes() == "refused past\n".as_bytes());
+}
