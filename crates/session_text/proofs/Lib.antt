@@ -1,0 +1,7 @@
+pub mod Parts
+pub mod WordSteps
+pub mod Numbers
+pub mod Paths
+pub mod LineSteps
+pub mod Telling
+pub mod Shown

@@ -1,0 +1,6 @@
+pub mod Words
+pub mod Commands
+pub mod Scripts
+pub mod Edits
+pub mod Telling
+pub mod LineTexts

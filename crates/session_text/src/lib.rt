@@ -1,0 +1,24 @@
+// The text of a session: the script that it reads, and the lines that it writes.
+//
+// Model: a script is a list of bytes, cut at newlines into lines and a line at spaces into words. `specs/Words.antt` says
+// what blanks, names and numbers are, `specs/Commands.antt` which command the words of a line are, and `specs/Scripts.antt`
+// which commands a text is, or which of its lines is none. `specs/Telling.antt` tells each command in the source's words.
+// `specs/LineTexts.antt` says which bytes a line has.
+// Promise: `read_script` gives exactly those commands or that line, or wants memory. `Line::put` puts exactly the bytes of
+// the line that is asked for, and takes no memory.
+#![tactic(auto)]
+
+mod commands;
+mod laws;
+mod lines;
+mod reading;
+mod scripts;
+mod words;
+
+pub use commands::{Command, PathText, Script};
+pub use laws::{commands_are_told_apart, values_are_shown};
+pub use lines::{Line, LineText, ShownValue};
+pub use scripts::{ScriptErr, read_script};
+
+#[cfg(test)]
+mod tests;
