@@ -6,8 +6,9 @@ ghost use Rattle.reader_states.specs.Turns.{event_in, listed, Turns, Gives};
 ghost use Rattle.code_reader.specs.CodeTurns.{block_event, empty_event, body_event, returned_event, breaking, opened, further, message_node, operator_node, alone, message_turn, implied_turn, body_end, name_node, primary, delegate_turn, caret_turn, block_bar, bar_turn, empty_end, stopped, entered, begun, bound, same_role, operand_awaited, operator_turn, block_turn, group_turn, keyword_turn, part_turn, capital_turn, gone_further, unary_node, unwound, statement_end, return_end, group_end, expression_end, terminated, gone_on, delegate_operator, behind_delegate, ended_turn};
 
 use reader_states::{
-    At, Counts, Event, Frame, Message, Owner, Post, Scope, Stack, Stop, Turn, closing, makes,
-    opening, quiet, simply, too_many_arguments,
+    At, AtCode, AtEnd, AtLocal, Body, Counts, Event, Expression, Frame, Message, Operand, Owner,
+    Post, Scope, Stack, Stop, Turn, closing, makes, opening, pop_body, pop_expression, pop_message,
+    pop_operand, quiet, simply, too_many_arguments, within,
 };
 use self_grammar::{
     Breach, Item, Limits, Made, Reserved, Role, Spot, Symbol, Target, TextNode, Words,
@@ -207,24 +208,24 @@ fn further(message: Message, name: u32, handles: bool) -> Message
 fn alone(frames: Stack<Frame>) -> Result<Stack<Frame>, Stop>
     ensures { Gives result (alone frames) }
 {
-    let mut frames = frames;
-    let Some(inner) = frames.pop() else {
-        return Ok(frames);
-    };
-    if let Frame::Right { .. } = inner {
-        return Err(Stop::BadSyntax);
+    let (operand, frames) = pop_operand(frames)?;
+    match operand {
+        None => return Ok(frames),
+        Some(_) => return Err(Stop::BadSyntax),
     }
-    frames.push(inner)?;
-    Ok(frames)
 }
 
 // A keyword message begins, whose receiver is read,
 fn begin_message(frames: Stack<Frame>, counts: Counts, message: Message) -> Result<Turn, Stop>
     ensures { Turns result (message_turn frames counts message) }
 {
-    let mut frames = frames;
-    frames.push(Frame::Argument(message))?;
-    simply(counts, opening(), At::Wanting, frames)
+    within(
+        counts,
+        opening(),
+        At::Code(AtCode::Wanting),
+        Frame::Argument(message),
+        frames,
+    )
 }
 
 // or that has none.
@@ -244,18 +245,14 @@ fn end_body(
 ) -> Result<Turn, Stop>
     ensures { Turns result (body_end frames counts (event_in event) terminator) }
 {
-    let mut frames = frames;
-    let Some(inner) = frames.pop() else {
-        return Err(Stop::BadSyntax);
-    };
-    match (inner, terminator) {
-        (Frame::Code, Terminator::Paren) => return simply(counts, event, At::Behind, frames),
-        (Frame::Block { .. }, Terminator::Bracket) => return simply(
-            counts,
-            event,
-            At::Having,
-            frames,
-        ),
+    let (body, frames) = pop_body(frames)?;
+    match (body, terminator) {
+        (Body::Method, Terminator::Paren) => {
+            return simply(counts, event, At::Behind(AtEnd::Method), frames);
+        }
+        (Body::Block { .. }, Terminator::Bracket) => {
+            return simply(counts, event, At::Code(AtCode::Having), frames);
+        }
         _ => return Err(Stop::BadSyntax),
     }
 }
@@ -309,12 +306,22 @@ fn begin_delegate(
     match reserved {
         Reserved::Free => {
             let to = Target::Parent(name);
-            return simply(counts, quiet(), At::Delegated { to, spot }, frames);
+            return simply(
+                counts,
+                quiet(),
+                At::Code(AtCode::Delegated { to, spot }),
+                frames,
+            );
         }
         Reserved::Itself => return Err(Stop::BadSyntax),
         Reserved::Resend => {
             let to = Target::Parents;
-            return simply(counts, quiet(), At::Delegated { to, spot }, frames);
+            return simply(
+                counts,
+                quiet(),
+                At::Code(AtCode::Delegated { to, spot }),
+                frames,
+            );
         }
     }
 }
@@ -322,33 +329,45 @@ fn begin_delegate(
 fn begin_return(frames: Stack<Frame>, counts: Counts, spot: Spot) -> Result<Turn, Stop>
     ensures { Turns result (caret_turn frames counts spot) }
 {
-    let mut frames = frames;
-    let Some(Frame::Statement { .. }) = frames.pop() else {
+    let (expression, frames) = pop_expression(frames)?;
+    let Expression::Statement { .. } = expression else {
         return Err(Stop::BadSyntax);
     };
-    frames.push(Frame::Returning(spot))?;
-    simply(counts, quiet(), At::Wanting, frames)
+    within(
+        counts,
+        quiet(),
+        At::Code(AtCode::Wanting),
+        Frame::Expression(Expression::Returning(spot)),
+        frames,
+    )
 }
 
 // The bar behind a bracket.
 fn open_bars(alloc: Global, frames: Stack<Frame>, counts: Counts) -> Result<Turn, Stop>
     ensures { Turns result (block_bar frames counts) }
 {
-    let mut frames = frames;
-    let Some(Frame::Block { barred: false }) = frames.pop() else {
+    let (body, frames) = pop_body(frames)?;
+    let Body::Block { barred: false } = body else {
         return Err(Stop::BadSyntax);
     };
-    frames.push(Frame::Block { barred: false })?;
-    frames.push(Frame::Locals(Scope::open(alloc, Owner::Activation)))?;
-    simply(counts, quiet(), At::Local, frames)
+    let scope = Scope::open(alloc, Owner::Activation)?;
+    let mut frames = frames;
+    frames.push(Frame::Body(body))?;
+    within(
+        counts,
+        quiet(),
+        At::Local(AtLocal::Slot),
+        Frame::Locals(scope),
+        frames,
+    )
 }
 
 // A bar where a unary is wanted.
 fn begin_bars(alloc: Global, frames: Stack<Frame>, counts: Counts) -> Result<Turn, Stop>
     ensures { Turns result (bar_turn frames counts) }
 {
-    let mut frames = frames;
-    let Some(Frame::Statement { later: false }) = frames.pop() else {
+    let (expression, frames) = pop_expression(frames)?;
+    let Expression::Statement { later: false } = expression else {
         return Err(Stop::BadSyntax);
     };
     open_bars(alloc, frames, counts)
@@ -363,14 +382,13 @@ fn end_empty(
 ) -> Result<Turn, Stop>
     ensures { Turns result (empty_end frames counts terminator spot) }
 {
-    let Terminator::Bracket = terminator else {
-        return Err(Stop::BadSyntax);
-    };
-    let mut frames = frames;
-    let Some(Frame::Block { .. }) = frames.pop() else {
-        return Err(Stop::BadSyntax);
-    };
-    simply(counts, empty_event(spot), At::Having, frames)
+    let (body, frames) = pop_body(frames)?;
+    match (body, terminator) {
+        (Body::Block { .. }, Terminator::Bracket) => {
+            return simply(counts, empty_event(spot), At::Code(AtCode::Having), frames);
+        }
+        _ => return Err(Stop::BadSyntax),
+    }
 }
 
 // The end of code behind a period.
@@ -382,15 +400,15 @@ fn end_stopped(
 ) -> Result<Turn, Stop>
     ensures { Turns result (stopped frames counts terminator spot) }
 {
-    let mut frames = frames;
-    let Some(Frame::Statement { later }) = frames.pop() else {
+    let (expression, frames) = pop_expression(frames)?;
+    let Expression::Statement { later } = expression else {
         return Err(Stop::BadSyntax);
     };
     if !later {
         return end_empty(frames, counts, terminator, spot);
     }
     let mut counts = counts;
-    counts.due.clear();
+    counts.forget();
     end_body(frames, counts, body_event(spot), terminator)
 }
 
@@ -399,13 +417,13 @@ fn begin_block(frames: Stack<Frame>, counts: Counts, spot: Spot) -> Result<Turn,
     ensures { Turns result (block_turn frames counts spot) }
 {
     let mut frames = frames;
-    frames.push(Frame::Block { barred: false })?;
-    frames.push(Frame::Statement { later: false })?;
+    frames.push(Frame::Body(Body::Block { barred: false }))?;
+    frames.push(Frame::Expression(Expression::Statement { later: false }))?;
     Ok(Turn {
         counts,
         event: block_event(spot),
         post: Post::Enter,
-        at: At::Wanting,
+        at: At::Code(AtCode::Wanting),
         frames,
     })
 }
@@ -413,9 +431,13 @@ fn begin_block(frames: Stack<Frame>, counts: Counts, spot: Spot) -> Result<Turn,
 fn begin_group(frames: Stack<Frame>, counts: Counts) -> Result<Turn, Stop>
     ensures { Turns result (group_turn frames counts) }
 {
-    let mut frames = frames;
-    frames.push(Frame::Group)?;
-    simply(counts, opening(), At::Wanting, frames)
+    within(
+        counts,
+        opening(),
+        At::Code(AtCode::Wanting),
+        Frame::Expression(Expression::Group),
+        frames,
+    )
 }
 
 // What is no unary of one sign.
@@ -461,7 +483,7 @@ pub fn begin(
     ensures { Turns result (begun frames counts symbol spot) }
 {
     if let Some(node) = primary(symbol) {
-        return simply(counts, makes(spot, node), At::Having, frames);
+        return simply(counts, makes(spot, node), At::Code(AtCode::Having), frames);
     }
     enter(alloc, frames, counts, symbol, spot)
 }
@@ -470,16 +492,12 @@ pub fn begin(
 fn bind(frames: Stack<Frame>, counts: Counts) -> Result<(Stack<Frame>, Counts), Stop>
     ensures { Gives result (Some (bound frames counts)) }
 {
-    let mut frames = frames;
-    let mut counts = counts;
-    let Some(inner) = frames.pop() else {
+    let (operand, frames) = pop_operand(frames)?;
+    let Some(operand) = operand else {
         return Ok((frames, counts));
     };
-    if let Frame::Right { made, .. } = inner {
-        counts.due.push(made)?;
-        return Ok((frames, counts));
-    }
-    frames.push(inner)?;
+    let mut counts = counts;
+    counts.owe(operand.made)?;
     Ok((frames, counts))
 }
 
@@ -505,13 +523,17 @@ fn await_operand(
 ) -> Result<Turn, Stop>
     ensures { Turns result (operand_awaited frames counts operator role made) }
 {
-    let mut frames = frames;
-    frames.push(Frame::Right {
-        operator,
-        role,
-        made,
-    })?;
-    simply(counts, quiet(), At::Wanting, frames)
+    within(
+        counts,
+        quiet(),
+        At::Code(AtCode::Wanting),
+        Frame::Right(Operand {
+            operator,
+            role,
+            made,
+        }),
+        frames,
+    )
 }
 
 // An operator behind a unary, among operands that have the same one, or the first.
@@ -524,28 +546,18 @@ fn add_operator(
 ) -> Result<Turn, Stop>
     ensures { Turns result (operator_turn frames counts operator role spot) }
 {
-    let mut frames = frames;
-    let Some(inner) = frames.pop() else {
+    let (operand, frames) = pop_operand(frames)?;
+    let Some(before) = operand else {
         let made = operator_node(Target::Given, operator, spot);
         return await_operand(frames, counts, operator, role, made);
     };
-    if let Frame::Right {
-        operator: other,
-        role: its,
-        made: before,
-    } = inner
-    {
-        if other != operator || !same_role(its, role) {
-            return Err(Stop::BadSyntax);
-        }
-        let mut counts = counts;
-        counts.due.push(before)?;
-        let made = operator_node(Target::Given, other, spot);
-        return await_operand(frames, counts, other, its, made);
+    if before.operator != operator || !same_role(before.role, role) {
+        return Err(Stop::BadSyntax);
     }
-    frames.push(inner)?;
-    let made = operator_node(Target::Given, operator, spot);
-    await_operand(frames, counts, operator, role, made)
+    let mut counts = counts;
+    counts.owe(before.made)?;
+    let made = operator_node(Target::Given, before.operator, spot);
+    await_operand(frames, counts, before.operator, before.role, made)
 }
 
 // A keyword behind a unary.
@@ -566,13 +578,15 @@ fn add_part(
 ) -> Result<Turn, Stop>
     ensures { Turns result (part_turn limits frames counts name handles) }
 {
-    let mut frames = frames;
-    let Some(Frame::Argument(message)) = frames.pop() else {
-        return Err(Stop::BadSyntax);
-    };
+    let (message, frames) = pop_message(frames)?;
     let event = breaking(too_many_arguments(limits, message.words.count()));
-    frames.push(Frame::Argument(further(message, name, handles)))?;
-    simply(counts, event, At::Wanting, frames)
+    within(
+        counts,
+        event,
+        At::Code(AtCode::Wanting),
+        Frame::Argument(further(message, name, handles)),
+        frames,
+    )
 }
 
 // A capital keyword behind a unary.
@@ -591,7 +605,7 @@ fn add_capital(
 
 // All messages that are open end.
 #[tactic(auto, unfolding(crate::specs::CodeTurns::unwound))]
-fn unwind(frames: Stack<Frame>, counts: Counts) -> Result<(Frame, Stack<Frame>, Counts), Stop>
+fn unwind(frames: Stack<Frame>, counts: Counts) -> Result<(Expression, Stack<Frame>, Counts), Stop>
     ensures { Gives result (unwound frames counts) }
 {
     let mut frames = frames;
@@ -602,13 +616,14 @@ fn unwind(frames: Stack<Frame>, counts: Counts) -> Result<(Frame, Stack<Frame>, 
         };
         match inner {
             Frame::Argument(message) => {
-                counts.due.push(message_node(message))?;
-                counts.nesting = counts.nesting.saturating_sub(1);
+                counts.owe(message_node(message))?;
+                counts.finish();
             }
-            Frame::Right { made, .. } => {
-                counts.due.push(made)?;
+            Frame::Right(operand) => {
+                counts.owe(operand.made)?;
             }
-            other => return Ok((other, frames, counts)),
+            Frame::Expression(expression) => return Ok((expression, frames, counts)),
+            _ => return Err(Stop::BadSyntax),
         }
     }
 }
@@ -626,13 +641,13 @@ fn end_statement(
         return end_body(frames, counts, body_event(spot), terminator);
     };
     let mut frames = frames;
-    frames.push(Frame::Statement { later: true })?;
+    frames.push(Frame::Expression(Expression::Statement { later: true }))?;
     let node = TextNode::Drop;
     Ok(Turn {
         counts,
         event: quiet(),
         post: Post::Owe(Made { node, spot }),
-        at: At::Wanting,
+        at: At::Code(AtCode::Wanting),
         frames,
     })
 }
@@ -644,7 +659,7 @@ fn end_return(frames: Stack<Frame>, counts: Counts, terminator: Terminator) -> R
     let Terminator::Period = terminator else {
         return end_body(frames, counts, returned_event(), terminator);
     };
-    simply(counts, quiet(), At::Ended, frames)
+    simply(counts, quiet(), At::Code(AtCode::Ended), frames)
 }
 
 // and of what stands in parentheses.
@@ -654,29 +669,28 @@ fn end_group(frames: Stack<Frame>, counts: Counts, terminator: Terminator) -> Re
     let Terminator::Paren = terminator else {
         return Err(Stop::BadSyntax);
     };
-    simply(counts, closing(), At::Having, frames)
+    simply(counts, closing(), At::Code(AtCode::Having), frames)
 }
 
-// The end of an expression, by the frame around it.
+// The end of an expression, by where it stands.
 fn end_expression(
-    inner: Frame,
+    expression: Expression,
     frames: Stack<Frame>,
     counts: Counts,
     terminator: Terminator,
     spot: Spot,
 ) -> Result<Turn, Stop>
-    ensures { Turns result (expression_end inner frames counts terminator spot) }
+    ensures { Turns result (expression_end expression frames counts terminator spot) }
 {
-    match inner {
-        Frame::Statement { .. } => return end_statement(frames, counts, terminator, spot),
-        Frame::Returning(caret) => {
+    match expression {
+        Expression::Statement { .. } => return end_statement(frames, counts, terminator, spot),
+        Expression::Returning(caret) => {
             let mut counts = counts;
             let node = TextNode::Return;
-            counts.due.push(Made { node, spot: caret })?;
+            counts.owe(Made { node, spot: caret })?;
             return end_return(frames, counts, terminator);
         }
-        Frame::Group => return end_group(frames, counts, terminator),
-        _ => return Err(Stop::BadSyntax),
+        Expression::Group => return end_group(frames, counts, terminator),
     }
 }
 
@@ -689,8 +703,8 @@ fn terminate(
 ) -> Result<Turn, Stop>
     ensures { Turns result (terminated frames counts terminator spot) }
 {
-    let (inner, frames, counts) = unwind(frames, counts)?;
-    end_expression(inner, frames, counts, terminator, spot)
+    let (expression, frames, counts) = unwind(frames, counts)?;
+    end_expression(expression, frames, counts, terminator, spot)
 }
 
 // A sign behind a unary that is no message without arguments.
@@ -762,7 +776,7 @@ pub fn go_on(
     ensures { Turns result (gone_on limits frames counts symbol spot) }
 {
     if let Some(node) = unary_node(symbol) {
-        return simply(counts, makes(spot, node), At::Having, frames);
+        return simply(counts, makes(spot, node), At::Code(AtCode::Having), frames);
     }
     go_further(limits, frames, counts, symbol, spot)
 }
@@ -801,7 +815,7 @@ pub fn follow_delegate(
                 words: Words::One(name),
                 args: 0,
             };
-            return simply(counts, makes(begin, node), At::Having, frames);
+            return simply(counts, makes(begin, node), At::Code(AtCode::Having), frames);
         }
         Symbol::Operator { name, role } => {
             return delegate_operator(to, begin, frames, counts, name, role);

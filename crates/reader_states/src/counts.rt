@@ -1,15 +1,15 @@
 // What is counted along a text.
-ghost use Rattle.std.specs.Prelude.{◌≡◌, OnOk};
-ghost use Rattle.reader_states.specs.Turns.{placed, told, entered, listed};
+ghost use Rattle.std.specs.Prelude.{◌≡◌, IfOk, OnOk};
+ghost use Rattle.reader_states.specs.Turns.{placed, told, entered, listed, owed, forgotten, finished};
 
 use crate::stack::Stack;
 use self_grammar::{Breach, Held, Item, Made, Spot};
-use std::alloc::AllocError;
+use std::alloc::{AllocError, Global};
 use std::marker::Model;
 
 /// What is counted before a sign, and what it still has to settle: nodes, rules, and slots that end before it.
 #[derive(Drop)]
-pub struct Counts {
+pub struct Tally {
     pub nesting: usize,
     pub pending: usize,
     pub nodes: usize,
@@ -20,7 +20,7 @@ pub struct Counts {
     pub ready: Vec<Item>,
 }
 
-impl Model for Counts {
+impl Model for Tally {
     ghost use Rattle.self_grammar.specs.Counts.{Context};
 
     ghost Value = { Context };
@@ -37,13 +37,42 @@ impl Model for Counts {
     } };
 }
 
+/// The same on the heap, so that it moves by a word.
+#[derive(Drop)]
+pub struct Counts {
+    tally: Box<Tally>,
+}
+
+impl Model for Counts {
+    ghost use Rattle.self_grammar.specs.Counts.{Context};
+
+    ghost Value = { Context };
+
+    ghost view = { λ c. c.tally.value };
+}
+
 impl Counts {
+    pub fn new(alloc: Global, tally: Tally) -> Result<Counts, AllocError>
+        ensures { IfOk result (λ c. c ≡ tally) }
+    {
+        let Ok(tally) = Box::new(alloc, tally) else {
+            return Err(AllocError);
+        };
+        Ok(Counts { tally })
+    }
+
+    pub fn into_tally(self) -> Tally
+        ensures { result ≡ self }
+    {
+        Box::into_inner(self.tally)
+    }
+
     /// A slot ends before the sign, with this item; an argument has none.
     pub fn place(&mut self, item: Option<Item>) -> Result<(), AllocError>
         ensures { OnOk result (self.new ≡ placed (listed item) self.old) }
     {
         if let Some(item) = item {
-            self.ready.push(item)?;
+            self.tally.ready.push(item)?;
         }
         Ok(())
     }
@@ -53,21 +82,44 @@ impl Counts {
         ensures { OnOk result (self.new ≡ told (listed breach) self.old) }
     {
         if let Some(breach) = breach {
-            self.late.push(breach)?;
+            self.tally.late.push(breach)?;
         }
         Ok(())
+    }
+
+    /// The sign is the first behind what makes this node.
+    pub fn owe(&mut self, node: Made) -> Result<(), AllocError>
+        ensures { OnOk result (self.new ≡ owed node self.old) }
+    {
+        self.tally.due.push(node)?;
+        Ok(())
+    }
+
+    /// The node that was due isn't made.
+    pub fn forget(&mut self)
+        ensures { self.new ≡ forgotten self.old }
+    {
+        self.tally.due.clear();
+    }
+
+    /// A keyword message ends before the sign.
+    pub fn finish(&mut self)
+        ensures { self.new ≡ finished self.old }
+    {
+        self.tally.nesting = self.tally.nesting.saturating_sub(1);
     }
 
     /// A body begins before the sign.
     pub fn enter(&mut self) -> Result<(), AllocError>
         ensures { OnOk result (self.new ≡ entered self.old) }
     {
-        self.around.push(Held {
-            pending: self.pending,
-            nodes: self.nodes,
-        })?;
-        self.pending = 0;
-        self.nodes = 0;
+        let held = Held {
+            pending: self.tally.pending,
+            nodes: self.tally.nodes,
+        };
+        self.tally.around.push(held)?;
+        self.tally.pending = 0;
+        self.tally.nodes = 0;
         Ok(())
     }
 }

@@ -35,95 +35,145 @@ pub struct Message {
     pub spot: Spot,
 }
 
-/// What is open.
+/// Whose slots a list has: the world's, those between bars of what may be a method, or those of an object (these two with
+/// the place of their parenthesis).
+#[derive(Clone, Copy)]
+pub enum Holder {
+    World,
+    Bars(Spot),
+    Object(Spot),
+}
+
+/// Where a slot stands: in a list, with what is known of it, or alone in an edit.
 #[derive(Drop)]
-pub enum Frame {
-    // A list of slots, with what is known of it: of the world, between bars of what may be a method, of an object (these
-    // two with the place of their parenthesis), and between the bars of a block; and the one slot of an edit.
-    World(Scope),
-    Bars(Spot, Scope),
-    Object(Spot, Scope),
-    Locals(Scope),
+pub enum Slots {
+    List(Holder, Scope),
     Edit,
-    // What a slot holds: what may yet be an object or a method, a method, and two kinds of contents that are none.
+}
+
+/// What a slot holds: what may yet be an object or a method, a method, and two kinds of contents that are none.
+#[derive(Clone, Copy)]
+pub enum Contents {
     Undecided(Label),
     Coded(Heading),
     Assigned(Label),
     Parental(Label),
-    // The code of a method, and of a block, with its bars or without.
-    Code,
-    Block {
-        barred: bool,
-    },
-    // An expression: a statement, the first or a later one; one behind '^'; in parentheses; the argument of a message.
-    Statement {
-        later: bool,
-    },
+}
+
+/// Whose code it is: a method's, or a block's, with its bars or without.
+#[derive(Clone, Copy)]
+pub enum Body {
+    Method,
+    Block { barred: bool },
+}
+
+/// Where an expression stands: a statement, the first or a later one; behind '^'; in parentheses.
+#[derive(Clone, Copy)]
+pub enum Expression {
+    Statement { later: bool },
     Returning(Spot),
     Group,
+}
+
+/// An operand behind an operator, and the node that is made behind it.
+#[derive(Clone, Copy)]
+pub struct Operand {
+    pub operator: u32,
+    pub role: Role,
+    pub made: Made,
+}
+
+/// What is open.
+#[derive(Drop)]
+pub enum Frame {
+    Slots(Slots),
+    /// The list between the bars of a block.
+    Locals(Scope),
+    Slot(Contents),
+    Body(Body),
+    Expression(Expression),
+    /// The argument of a keyword message.
     Argument(Message),
-    /// An operand behind an operator, and the node that is made behind it.
-    Right {
-        operator: u32,
-        role: Role,
-        made: Made,
-    },
+    Right(Operand),
+}
+
+/// In code: a unary is wanted; there is one; there is a delegate; behind the period of a return.
+#[derive(Clone, Copy)]
+pub enum AtCode {
+    Wanting,
+    Having,
+    Delegated { to: Target, spot: Spot },
+    Ended,
+}
+
+/// In the name of a slot: a slot is wanted; there is a part of its name.
+#[derive(Clone, Copy)]
+pub enum AtName {
+    Slot,
+    Named(Label),
+    Starred(Label),
+    Operator { operator: u32, spot: Spot },
+    Keyword(Heading),
+}
+
+/// In the name of a slot that has arguments: behind that of an operator, behind that of a keyword, and where one is wanted.
+#[derive(Clone, Copy)]
+pub enum AtArgument {
+    Operator { operator: u32, spot: Spot },
+    Keyword(Heading),
+    Wanting(Heading),
+}
+
+/// In the contents of a slot: they are wanted, and may be a method; a parenthesis has opened at this place, or the bars
+/// behind it have closed; the same bars of what is surely no method.
+#[derive(Clone, Copy)]
+pub enum AtContents {
+    Wanted,
+    Opened(Spot),
+    Shut(Spot),
+    DataShut(Spot),
+}
+
+/// In contents that are no method: they are wanted; a parenthesis has opened at this place.
+#[derive(Clone, Copy)]
+pub enum AtData {
+    Wanted,
+    Opened(Spot),
+}
+
+/// Behind what a slot ends with: a method; other contents, with the slot's item, where a path may go on; an argument; the
+/// period of an edit.
+#[derive(Clone, Copy)]
+pub enum AtEnd {
+    Method,
+    Member { item: Item, path: bool },
+    Argument,
+    Edit,
+}
+
+/// In the slots of a block: one is wanted; there is its name; its contents are wanted; there is the slot, which ends with
+/// this item, where a path may go on. An argument has no item.
+#[derive(Clone, Copy)]
+pub enum AtLocal {
+    Slot,
+    Named(Label),
+    Equals(Label),
+    Arrow(Label),
+    Done { item: Option<Item>, path: bool },
 }
 
 /// Where the next sign stands.
 #[derive(Drop)]
 pub enum At {
-    // In code: a unary is wanted; there is one; there is a delegate; behind the period of a return; behind a method.
-    Wanting,
-    Having,
-    Delegated {
-        to: Target,
-        spot: Spot,
-    },
-    Ended,
-    Behind,
-    // In a list of slots: a slot is wanted; there is a part of its name.
-    Slot,
-    Named(Label),
-    Starred(Label),
-    OperatorNamed {
-        operator: u32,
-        spot: Spot,
-    },
-    OperatorArgued {
-        operator: u32,
-        spot: Spot,
-        inner: Scope,
-    },
-    KeywordNamed(Heading),
-    // With the arguments that are named so far.
-    KeywordArgued(Heading, Scope),
-    KeywordWanting(Heading, Scope),
-    /// What the slot holds is wanted: with the slots that a method there begins with.
-    Holding(Scope),
-    DataWanted,
-    // A parenthesis has opened at this place, or the bars behind it have closed, with what is known of them.
-    Opened(Spot, Scope),
-    DataOpened(Spot),
-    Shut(Spot, Scope),
-    DataShut(Spot, Scope),
-    /// There is a slot, which ends with this item; a path may go on.
-    MemberDone {
-        item: Item,
-        path: bool,
-    },
-    ArgumentDone,
-    LoneStopped,
-    // In the slots of a block.
-    Local,
-    LocalNamed(Label),
-    LocalEquals(Label),
-    LocalArrow(Label),
-    /// An argument has no item.
-    LocalDone {
-        item: Option<Item>,
-        path: bool,
-    },
+    Code(AtCode),
+    Name(AtName),
+    /// With the arguments that are named so far.
+    Argued(AtArgument, Scope),
+    /// With what is known of the slots of a method there.
+    Contents(AtContents, Scope),
+    Data(AtData),
+    Behind(AtEnd),
+    Local(AtLocal),
     Finished,
 }
 

@@ -9,13 +9,22 @@
 mod counts;
 mod events;
 mod frames;
+mod names;
 mod scopes;
 mod stack;
+mod tops;
 mod turns;
 
-pub use counts::{Counts, Event, Post};
+pub use counts::{Counts, Event, Post, Tally};
 pub use events::{closing, makes, opening, quiet, saying};
-pub use frames::{At, Frame, Heading, Label, Message, Stop, Turn};
+pub use frames::{
+    At, AtArgument, AtCode, AtContents, AtData, AtEnd, AtLocal, AtName, Body, Contents, Expression,
+    Frame, Heading, Holder, Label, Message, Operand, Slots, Stop, Turn,
+};
+pub use names::{argument_in, name_in, setter_in, slot_item};
 pub use scopes::{Owner, Scope, duplicate, too_many_arguments};
 pub use stack::Stack;
-pub use turns::simply;
+pub use tops::{
+    pop_body, pop_expression, pop_list, pop_locals, pop_message, pop_operand, pop_slot, pop_slots,
+};
+pub use turns::{simply, within};

@@ -95,10 +95,10 @@ impl NameSet {
     }
 }
 
-/// A list of slots: the names that it has, the arguments and the places of the other slots of a method that it may be,
-/// whether all of them are slots that a method may have, and the first local beyond the limit.
+// The names that a list has, the arguments and the places of the other slots of a method that it may be, whether all of
+// them are slots that a method may have, and the first local beyond the limit.
 #[derive(Drop)]
-pub struct Scope {
+struct Entries {
     owner: Owner,
     names: NameSet,
     arguments: Vec<u32>,
@@ -107,7 +107,7 @@ pub struct Scope {
     beyond: Option<Spot>,
 }
 
-impl Model for Scope {
+impl Model for Entries {
     ghost use Rattle.std.specs.Prelude.{length};
     ghost use Rattle.self_grammar.specs.Scopes.{Scope as Slots};
     ghost use Rattle.reader_states.specs.Owners.{owner_in};
@@ -124,12 +124,12 @@ impl Model for Scope {
     } };
 }
 
-impl Scope {
-    /// No slots yet. Takes no memory.
-    pub fn open(alloc: Global, owner: Owner) -> Scope
+impl Entries {
+    // No slots yet. Takes no memory.
+    fn open(alloc: Global, owner: Owner) -> Entries
         ensures { result ≡ scope (owner_in owner) }
     {
-        Scope {
+        Entries {
             owner,
             names: NameSet::open(alloc),
             arguments: Vec::new(alloc),
@@ -139,16 +139,16 @@ impl Scope {
         }
     }
 
-    /// One more name; answers whether it was there already.
-    pub fn add(&mut self, words: Words) -> Result<bool, AllocError>
+    // One more name; answers whether it was there already.
+    fn add(&mut self, words: Words) -> Result<bool, AllocError>
         ensures again { IfOk result (λ again. again ≡ has self.old (parts_in words)) }
         ensures named { OnOk result (self.new ≡ named (parts_in words) self.old) }
     {
         self.names.add(words)
     }
 
-    /// One more argument; answers whether its name was there already.
-    pub fn add_argument(&mut self, name: u32) -> Result<bool, AllocError>
+    // One more argument; answers whether its name was there already.
+    fn add_argument(&mut self, name: u32) -> Result<bool, AllocError>
         ensures again { IfOk result (λ again. again ≡ has self.old (name ∷ [])) }
         ensures named { OnOk result (self.new ≡ with_argument (name ∷ []) self.old) }
     {
@@ -156,8 +156,8 @@ impl Scope {
         self.names.add(Words::One(name))
     }
 
-    /// One more slot that is no argument, which begins there.
-    pub fn add_local(&mut self, limits: Limits, spot: Spot) -> Result<(), AllocError>
+    // One more slot that is no argument, which begins there.
+    fn add_local(&mut self, limits: Limits, spot: Spot) -> Result<(), AllocError>
         ensures { OnOk result (self.new ≡ with_local limits spot self.old) }
     {
         let count = self.locals.len();
@@ -168,36 +168,8 @@ impl Scope {
         Ok(())
     }
 
-    /// One of them is a slot that no method has.
-    pub fn mark_object(&mut self)
-        ensures { self.new ≡ not_plain self.old }
-    {
-        self.plain = false;
-    }
-
-    /// How many arguments there are.
-    pub fn arguments(&self) -> usize
-        ensures { result ≡ self.now.arguments }
-    {
-        self.arguments.len()
-    }
-
-    /// Whether all of them are slots that a method may have.
-    pub fn is_plain(&self) -> bool
-        ensures { result ≡ self.now.plain }
-    {
-        self.plain
-    }
-
-    /// One more argument is too many.
-    pub fn too_many_arguments(&self, limits: Limits) -> Option<Breach>
-        ensures { listed result ≡ too_many_arguments limits self.now.arguments }
-    {
-        too_many_arguments(limits, self.arguments.len())
-    }
-
-    /// One more local is too many, where this is known at once.
-    pub fn too_many_locals(&self, limits: Limits) -> Option<Breach>
+    // One more local is too many, where this is known at once.
+    fn too_many_locals(&self, limits: Limits) -> Option<Breach>
         ensures { listed result ≡ too_many_locals limits self.now }
     {
         if self.owner != Owner::Activation || self.locals.len() < limits.locals as usize {
@@ -209,8 +181,8 @@ impl Scope {
         })
     }
 
-    /// Too many locals of what turns out to be a method.
-    pub fn late_locals(&self) -> Option<Breach>
+    // Too many locals of what turns out to be a method.
+    fn late_locals(&self) -> Option<Breach>
         ensures { listed result ≡ late_locals self.now }
     {
         if self.owner == Owner::Activation {
@@ -223,6 +195,99 @@ impl Scope {
             kind: ReadKind::TooManyLocals,
             place: Some(spot),
         })
+    }
+}
+
+/// A list of slots: the names that it has, the arguments and the places of the other slots of a method that it may be,
+/// whether all of them are slots that a method may have, and the first local beyond the limit. It lies on the heap, so that
+/// what is open moves by a word.
+#[derive(Drop)]
+pub struct Scope {
+    entries: Box<Entries>,
+}
+
+impl Model for Scope {
+    ghost use Rattle.self_grammar.specs.Scopes.{Scope as Slots};
+
+    ghost Value = { Slots };
+
+    ghost view = { λ s. s.entries.value };
+}
+
+impl Scope {
+    /// No slots yet.
+    pub fn open(alloc: Global, owner: Owner) -> Result<Scope, AllocError>
+        ensures { IfOk result (λ s. s ≡ scope (owner_in owner)) }
+    {
+        let Ok(entries) = Box::new(alloc, Entries::open(alloc, owner)) else {
+            return Err(AllocError);
+        };
+        Ok(Scope { entries })
+    }
+
+    /// One more name; answers whether it was there already.
+    pub fn add(&mut self, words: Words) -> Result<bool, AllocError>
+        ensures again { IfOk result (λ again. again ≡ has self.old (parts_in words)) }
+        ensures named { OnOk result (self.new ≡ named (parts_in words) self.old) }
+    {
+        self.entries.add(words)
+    }
+
+    /// One more argument; answers whether its name was there already.
+    pub fn add_argument(&mut self, name: u32) -> Result<bool, AllocError>
+        ensures again { IfOk result (λ again. again ≡ has self.old (name ∷ [])) }
+        ensures named { OnOk result (self.new ≡ with_argument (name ∷ []) self.old) }
+    {
+        self.entries.add_argument(name)
+    }
+
+    /// One more slot that is no argument, which begins there.
+    pub fn add_local(&mut self, limits: Limits, spot: Spot) -> Result<(), AllocError>
+        ensures { OnOk result (self.new ≡ with_local limits spot self.old) }
+    {
+        self.entries.add_local(limits, spot)
+    }
+
+    /// One of them is a slot that no method has.
+    pub fn mark_object(&mut self)
+        ensures { self.new ≡ not_plain self.old }
+    {
+        self.entries.plain = false;
+    }
+
+    /// How many arguments there are.
+    pub fn arguments(&self) -> usize
+        ensures { result ≡ self.now.arguments }
+    {
+        self.entries.arguments.len()
+    }
+
+    /// Whether all of them are slots that a method may have.
+    pub fn is_plain(&self) -> bool
+        ensures { result ≡ self.now.plain }
+    {
+        self.entries.plain
+    }
+
+    /// One more argument is too many.
+    pub fn too_many_arguments(&self, limits: Limits) -> Option<Breach>
+        ensures { listed result ≡ too_many_arguments limits self.now.arguments }
+    {
+        too_many_arguments(limits, self.arguments())
+    }
+
+    /// One more local is too many, where this is known at once.
+    pub fn too_many_locals(&self, limits: Limits) -> Option<Breach>
+        ensures { listed result ≡ too_many_locals limits self.now }
+    {
+        self.entries.too_many_locals(limits)
+    }
+
+    /// Too many locals of what turns out to be a method.
+    pub fn late_locals(&self) -> Option<Breach>
+        ensures { listed result ≡ late_locals self.now }
+    {
+        self.entries.late_locals()
     }
 }
 

@@ -15,9 +15,10 @@ use Rattle.self_grammar.proofs.Moves as m
 use Rattle.code_reader.specs.declared.code.Terminator.{Terminator}
 use Rattle.code_reader.specs.declared.code.Terminator.TheVariants.{Period, Paren, Bracket}
 use Rattle.reader_states.specs.declared.frames.At.TheVariants as at
+use Rattle.reader_states.specs.declared.frames.AtCode.TheVariants as in_code
 use Rattle.reader_states.specs.declared.frames.Frame.TheVariants as f
-use Rattle.reader_states.specs.Turns.{simply}
-use Rattle.code_reader.specs.CodeTurns.{operator_node, opened, implied_turn, body_end, delegate_turn, caret_turn, block_bar, bar_turn, empty_end, stopped, begun, same_role, operator_turn, keyword_turn, part_turn, capital_turn, unwound, terminated, gone_on, delegate_operator, behind_delegate, ended_turn, owe, finish, message_node}
+use Rattle.reader_states.specs.Turns.{simply, owed, finished}
+use Rattle.code_reader.specs.CodeTurns.{operator_node, opened, implied_turn, body_end, delegate_turn, caret_turn, block_bar, bar_turn, empty_end, stopped, begun, same_role, operator_turn, keyword_turn, part_turn, capital_turn, unwound, terminated, gone_on, delegate_operator, behind_delegate, ended_turn, message_node}
 use Rattle.self_reader.proofs.Shown.{Follows, message_in, code, hole, operand}
 
 abbrev pub terminator : m.Stop → Terminator
@@ -119,7 +120,7 @@ begin_follows l c h (sign.Bad z) b = tt
 
 -- where there is one
 same_follows : (l : Limits) (c : Context) (h : p.Hole) (i : ℕ) (q : Role) (us : g.Operands) (u : g.Unary) (b : Spot) (y : Bool) →
-    Follows l c (cond y (simply (owe (s.operator_node i us) c) quiet at.Wanting (f.Right i q (operator_node Given i b) ∷ hole l h)) None)
+    Follows l c (cond y (simply (owed (s.operator_node i us) c) quiet (at.Code in_code.Wanting) (f.Right (record { operator = i; role = q; made = operator_node Given i b }) ∷ hole l h)) None)
     (cond y (Some (record { pre = m.owe (s.operator_node i us); event = quiet; post = m.stay; to = m.wanting (p.right h i q (g.next us u b)) })) None)
 same_follows l c h i q us u b true = (refl, refl, λ d. refl, refl)
 same_follows l c h i q us u b false = tt
@@ -172,7 +173,7 @@ expression_follows l c k (p.returning h ss q) e pre m.bracket b w =
 expression_follows l c k (p.in_group h q) e pre m.period b w = tt
 expression_follows l c k (p.in_group h q) e pre m.paren b w = (w, refl, λ d. refl, refl)
 expression_follows l c k (p.in_group h q) e pre m.bracket b w = tt
-expression_follows l c k (p.argument h x) e pre y b w = expression_follows l c (finish (owe (message_node (message_in x)) k)) h (g.keyed x e) pre y b w
+expression_follows l c k (p.argument h x) e pre y b w = expression_follows l c (finished (owed (message_node (message_in x)) k)) h (g.keyed x e) pre y b w
 
 stop_follows : (l : Limits) (c : Context) (h : p.OperandHole) (u : g.Unary) (y : m.Stop) (b : Spot) → Follows l c (terminated (operand l h) c (terminator y) b) (m.stop_move h u y b)
 unfolding unwound

@@ -13,7 +13,7 @@ use Rattle.self_grammar.proofs.Settled.{name_scope, set_scope, local_scope}
 use Rattle.self_grammar.proofs.Places.{OperandHole}
 use Rattle.self_grammar.proofs.Moves as m
 use Rattle.self_grammar.proofs.LocalMoves as w
-use Rattle.self_reader.specs.LocalTurns.{local_turn, done_turn, role_turn, local_named_turn, local_equals_turn, local_arrow_turn, local_done_turn}
+use Rattle.contents_reader.specs.LocalTurns.{local_turn, done_turn, role_turn, local_named_turn, local_equals_turn, local_arrow_turn, local_done_turn}
 use Rattle.self_reader.proofs.Shown.{Follows, block, label_in, local_item, local_goes_on}
 
 -- where a slot is wanted

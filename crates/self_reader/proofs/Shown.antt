@@ -17,6 +17,18 @@ use Rattle.reader_states.specs.declared.frames.Frame.{Frame}
 use Rattle.reader_states.specs.declared.frames.Frame.TheVariants as f
 use Rattle.reader_states.specs.declared.frames.At.{At}
 use Rattle.reader_states.specs.declared.frames.At.TheVariants as at
+use Rattle.reader_states.specs.declared.frames.AtArgument.TheVariants as argued
+use Rattle.reader_states.specs.declared.frames.AtCode.TheVariants as in_code
+use Rattle.reader_states.specs.declared.frames.AtContents.TheVariants as in_contents
+use Rattle.reader_states.specs.declared.frames.AtData.TheVariants as in_data
+use Rattle.reader_states.specs.declared.frames.AtEnd.TheVariants as end
+use Rattle.reader_states.specs.declared.frames.AtLocal.TheVariants as local
+use Rattle.reader_states.specs.declared.frames.AtName.TheVariants as name
+use Rattle.reader_states.specs.declared.frames.Body.TheVariants as body
+use Rattle.reader_states.specs.declared.frames.Contents.TheVariants as held
+use Rattle.reader_states.specs.declared.frames.Expression.TheVariants as expression
+use Rattle.reader_states.specs.declared.frames.Holder.TheVariants as list_of
+use Rattle.reader_states.specs.declared.frames.Slots.TheVariants as slots
 use Rattle.reader_states.specs.Turns.{Turn, after}
 
 abbrev pub label_in : g.Label → Label
@@ -47,21 +59,21 @@ message_in m = record {
 -- a list, by what is known of it where the next sign stands
 abbrev mutual
   pub lists : Limits → p.Lists → Scope → List Frame
-  lists l (p.in_world ms) t = f.World t ∷ []
-  lists l (p.in_bars h q b ss) t = f.Bars q t ∷ contents l h
-  lists l (p.in_object h q b ss) t = f.Object q t ∷ data_frames l h
+  lists l (p.in_world ms) t = f.Slots (slots.List list_of.World t) ∷ []
+  lists l (p.in_bars h q b ss) t = f.Slots (slots.List (list_of.Bars q) t) ∷ contents l h
+  lists l (p.in_object h q b ss) t = f.Slots (slots.List (list_of.Object q) t) ∷ data_frames l h
 
   pub start : Limits → p.Start → Scope → List Frame
   start l (p.listed h) t = lists l h t
-  start l p.lone t = f.Edit ∷ []
+  start l p.lone t = f.Slots slots.Edit ∷ []
 
   pub contents : Limits → p.Contents → List Frame
-  contents l (p.undecided h w e) = f.Undecided (label_in w) ∷ lists l h (name_scope l w (p.scope_of l h))
-  contents l (p.coded h x e) = f.Coded (heading_in x) ∷ start l h (head_named l x (p.start_scope l h)).around
+  contents l (p.undecided h w e) = f.Slot (held.Undecided (label_in w)) ∷ lists l h (name_scope l w (p.scope_of l h))
+  contents l (p.coded h x e) = f.Slot (held.Coded (heading_in x)) ∷ start l h (head_named l x (p.start_scope l h)).around
 
   pub data_frames : Limits → p.DataHole → List Frame
-  data_frames l (p.assigned h w a) = f.Assigned (label_in w) ∷ lists l h (set_scope l w (p.scope_of l h))
-  data_frames l (p.parental h w x e) = f.Parental (label_in w) ∷ lists l h (name_scope l w (p.scope_of l h))
+  data_frames l (p.assigned h w a) = f.Slot (held.Assigned (label_in w)) ∷ lists l h (set_scope l w (p.scope_of l h))
+  data_frames l (p.parental h w x e) = f.Slot (held.Parental (label_in w)) ∷ lists l h (name_scope l w (p.scope_of l h))
 
 abbrev pub is_later : g.Statements → Bool
 is_later g.none = false
@@ -73,19 +85,19 @@ is_barred (g.present q ws r) = true
 
 abbrev mutual
   pub code : Limits → p.CodeHole → List Frame
-  code l (p.in_method h q) = f.Code ∷ contents l h
-  code l (p.in_slotted h q b ss b2) = f.Code ∷ contents l h
-  code l (p.in_block h q bs) = f.Block (is_barred bs) ∷ operand l h
+  code l (p.in_method h q) = f.Body body.Method ∷ contents l h
+  code l (p.in_slotted h q b ss b2) = f.Body body.Method ∷ contents l h
+  code l (p.in_block h q bs) = f.Body (body.Block (is_barred bs)) ∷ operand l h
 
   pub hole : Limits → p.Hole → List Frame
-  hole l (p.statement h ss) = f.Statement (is_later ss) ∷ code l h
-  hole l (p.returning h ss q) = f.Returning q ∷ code l h
-  hole l (p.in_group h q) = f.Group ∷ operand l h
+  hole l (p.statement h ss) = f.Expression (expression.Statement (is_later ss)) ∷ code l h
+  hole l (p.returning h ss q) = f.Expression (expression.Returning q) ∷ code l h
+  hole l (p.in_group h q) = f.Expression expression.Group ∷ operand l h
   hole l (p.argument h m) = f.Argument (message_in m) ∷ hole l h
 
   pub operand : Limits → p.OperandHole → List Frame
   operand l (p.alone h) = hole l h
-  operand l (p.right h o r us) = f.Right o r (s.operator_node o us) ∷ hole l h
+  operand l (p.right h o r us) = f.Right (record { operator = o; role = r; made = s.operator_node o us }) ∷ hole l h
 
 -- what a slot ends with, and whether a path may go on
 abbrev pub ends_with_path : g.Simple → Bool
@@ -136,39 +148,39 @@ stand a fs = record { at = a; frames = fs }
 
 -- the frames of the slots of a block
 abbrev pub block : Limits → p.OperandHole → Scope → List Frame
-block l h t = f.Locals t ∷ f.Block false ∷ operand l h
+block l h t = f.Locals t ∷ f.Body (body.Block false) ∷ operand l h
 
 abbrev pub shown : Limits → m.Place → Stand
-shown l (m.wanting h) = stand at.Wanting (operand l h)
-shown l (m.having h u) = stand at.Having (operand l h)
-shown l (m.delegated h d) = stand (at.Delegated (s.delegate_target d) (s.delegate_spot d)) (operand l h)
-shown l (m.ended h ss q e d) = stand at.Ended (code l h)
-shown l (m.behind h x) = stand at.Behind (contents l h)
-shown l (m.at_slot h) = stand at.Slot (start l h (p.start_scope l h))
-shown l (m.named h w) = stand (at.Named (label_in w)) (start l h (name_scope l w (p.start_scope l h)))
-shown l (m.starred h w x) = stand (at.Starred (label_in w)) (lists l h (name_scope l w (p.scope_of l h)))
-shown l (m.operator_named h o) = stand (at.OperatorNamed o.word.name o.word.spot) (start l h (operator_scope l o (p.start_scope l h)))
+shown l (m.wanting h) = stand (at.Code in_code.Wanting) (operand l h)
+shown l (m.having h u) = stand (at.Code in_code.Having) (operand l h)
+shown l (m.delegated h d) = stand (at.Code (in_code.Delegated (s.delegate_target d) (s.delegate_spot d))) (operand l h)
+shown l (m.ended h ss q e d) = stand (at.Code in_code.Ended) (code l h)
+shown l (m.behind h x) = stand (at.Behind end.Method) (contents l h)
+shown l (m.at_slot h) = stand (at.Name name.Slot) (start l h (p.start_scope l h))
+shown l (m.named h w) = stand (at.Name (name.Named (label_in w))) (start l h (name_scope l w (p.start_scope l h)))
+shown l (m.starred h w x) = stand (at.Name (name.Starred (label_in w))) (lists l h (name_scope l w (p.scope_of l h)))
+shown l (m.operator_named h o) = stand (at.Name (name.Operator o.word.name o.word.spot)) (start l h (operator_scope l o (p.start_scope l h)))
 shown l (m.operator_argued h o a) =
-    stand (at.OperatorArgued o.word.name o.word.spot (argument_scope a (scope activation))) (start l h (operator_scope l o (p.start_scope l h)))
-shown l (m.keyword_named h n) = stand (at.KeywordNamed (keyword_heading n)) (start l h (keyword_scope l n (p.start_scope l h)))
+    stand (at.Argued (argued.Operator o.word.name o.word.spot) (argument_scope a (scope activation))) (start l h (operator_scope l o (p.start_scope l h)))
+shown l (m.keyword_named h n) = stand (at.Name (name.Keyword (keyword_heading n))) (start l h (keyword_scope l n (p.start_scope l h)))
 shown l (m.keyword_argued h n) =
-    stand (at.KeywordArgued (keyword_heading (s.head_name n)) (head_inner n)) (start l h (keyword_scope l (s.head_name n) (p.start_scope l h)))
+    stand (at.Argued (argued.Keyword (keyword_heading (s.head_name n))) (head_inner n)) (start l h (keyword_scope l (s.head_name n) (p.start_scope l h)))
 shown l (m.keyword_wanting h n q) =
-    stand (at.KeywordWanting (keyword_heading (g.keyword_next (s.head_name n) q)) (head_inner n)) (start l h (keyword_scope l (s.head_name n) (p.start_scope l h)))
-shown l (m.holding h) = stand (at.Holding (p.named_of l h).inner) (contents l h)
-shown l (m.data_wanted h) = stand at.DataWanted (data_frames l h)
-shown l (m.opened h q) = stand (at.Opened q (p.named_of l h).inner) (contents l h)
-shown l (m.data_opened h q) = stand (at.DataOpened q) (data_frames l h)
-shown l (m.shut h q b ss b2) = stand (at.Shut q (slots_scope l ss (p.named_of l h).inner)) (contents l h)
-shown l (m.data_shut h q b ss b2) = stand (at.DataShut q (slots_scope l ss (scope holder))) (data_frames l h)
-shown l (m.member_done h x) = stand (at.MemberDone (member_item x) (member_goes_on x)) (lists l h (member_scope l x (p.scope_of l h)))
-shown l (m.argument_done h w) = stand at.ArgumentDone (lists l h (argument_scope w (p.scope_of l h)))
-shown l (m.lone_stopped y e x d) = stand at.LoneStopped (f.Edit ∷ [])
-shown l (m.at_local h q b ws) = stand at.Local (block l h (m.block_scope l ws))
-shown l (m.local_named h q b ws w) = stand (at.LocalNamed (label_in w)) (block l h (name_scope l w (m.block_scope l ws)))
-shown l (m.local_equals h q b ws w e) = stand (at.LocalEquals (label_in w)) (block l h (name_scope l w (m.block_scope l ws)))
-shown l (m.local_arrow h q b ws w a) = stand (at.LocalArrow (label_in w)) (block l h (set_scope l w (m.block_scope l ws)))
-shown l (m.local_done h q b ws x) = stand (at.LocalDone (local_item x) (local_goes_on x)) (block l h (local_scope l x (m.block_scope l ws)))
+    stand (at.Argued (argued.Wanting (keyword_heading (g.keyword_next (s.head_name n) q))) (head_inner n)) (start l h (keyword_scope l (s.head_name n) (p.start_scope l h)))
+shown l (m.holding h) = stand (at.Contents in_contents.Wanted (p.named_of l h).inner) (contents l h)
+shown l (m.data_wanted h) = stand (at.Data in_data.Wanted) (data_frames l h)
+shown l (m.opened h q) = stand (at.Contents (in_contents.Opened q) (p.named_of l h).inner) (contents l h)
+shown l (m.data_opened h q) = stand (at.Data (in_data.Opened q)) (data_frames l h)
+shown l (m.shut h q b ss b2) = stand (at.Contents (in_contents.Shut q) (slots_scope l ss (p.named_of l h).inner)) (contents l h)
+shown l (m.data_shut h q b ss b2) = stand (at.Contents (in_contents.DataShut q) (slots_scope l ss (scope holder))) (data_frames l h)
+shown l (m.member_done h x) = stand (at.Behind (end.Member (member_item x) (member_goes_on x))) (lists l h (member_scope l x (p.scope_of l h)))
+shown l (m.argument_done h w) = stand (at.Behind end.Argument) (lists l h (argument_scope w (p.scope_of l h)))
+shown l (m.lone_stopped y e x d) = stand (at.Behind end.Edit) (f.Slots slots.Edit ∷ [])
+shown l (m.at_local h q b ws) = stand (at.Local local.Slot) (block l h (m.block_scope l ws))
+shown l (m.local_named h q b ws w) = stand (at.Local (local.Named (label_in w))) (block l h (name_scope l w (m.block_scope l ws)))
+shown l (m.local_equals h q b ws w e) = stand (at.Local (local.Equals (label_in w))) (block l h (name_scope l w (m.block_scope l ws)))
+shown l (m.local_arrow h q b ws w a) = stand (at.Local (local.Arrow (label_in w))) (block l h (set_scope l w (m.block_scope l ws)))
+shown l (m.local_done h q b ws x) = stand (at.Local (local.Done (local_item x) (local_goes_on x))) (block l h (local_scope l x (m.block_scope l ws)))
 shown l (m.finished t) = stand at.Finished []
 
 -- The code's turn is the grammar's move.

@@ -26,17 +26,23 @@ use Rattle.reader_states.specs.declared.frames.Heading.{Heading}
 use Rattle.reader_states.specs.declared.frames.Frame.{Frame}
 use Rattle.reader_states.specs.declared.frames.Frame.TheVariants as f
 use Rattle.reader_states.specs.declared.frames.At.TheVariants as at
+use Rattle.reader_states.specs.declared.frames.AtContents.TheVariants as in_contents
+use Rattle.reader_states.specs.declared.frames.AtEnd.TheVariants as end
+use Rattle.reader_states.specs.declared.frames.AtName.TheVariants as name
+use Rattle.reader_states.specs.declared.frames.Body.TheVariants as body
+use Rattle.reader_states.specs.declared.frames.Expression.TheVariants as expression
+use Rattle.reader_states.specs.declared.frames.Slots.TheVariants as slots
 use Rattle.reader_states.specs.Turns.{Turn, simply}
 use Rattle.code_reader.specs.CodeTurns.{begun}
 use Rattle.slot_reader.specs.SlotTurns as t
-use Rattle.self_reader.specs.ContentTurns as held
+use Rattle.contents_reader.specs.ContentTurns as held
 use Rattle.reader_states.specs.Turns as turns
 use Rattle.self_reader.proofs.Shown.{Follows, label_in, keyword_heading, lists, start, contents, data_frames, member_item, member_goes_on, ends_with_path, stand}
 use Rattle.self_reader.proofs.CodeFollows.{begin_follows}
 
 -- The end of a list.
 shut_is : (l : Limits) (h : p.Contents) (q : Spot) (u : Scope) (c : Context) →
-    t.shut_at q u (contents l h) c ≡ simply c (record quiet { broken = s.at_bar (p.named_of l h) u }) (at.Shut q u) (contents l h)
+    t.shut_at q u (contents l h) c ≡ simply c (record quiet { broken = s.at_bar (p.named_of l h) u }) (at.Contents (in_contents.Shut q) u) (contents l h)
 shut_is l (p.undecided h w e) q u c = refl
 shut_is l (p.coded h (g.unary_head w) e) q u c = refl
 shut_is l (p.coded h (g.operator_with o a) e) q u c = refl
@@ -152,13 +158,13 @@ behind_follows l c h q sign.End b = method_ends l c h q v.end b
 behind_follows l c h q _ b = tt
 
 pub lone_stopped_follows : (l : Limits) (c : Context) (y : g.Head) (e : g.Word) (q : g.Method) (r : Spot) (x : Symbol) (b : Spot) →
-    Follows l c (t.lone_stopped_turn (f.Edit ∷ []) c x) (v.lone_stopped_move y e q r x b)
+    Follows l c (t.lone_stopped_turn (f.Slots slots.Edit ∷ []) c x) (v.lone_stopped_move y e q r x b)
 lone_stopped_follows l c y e q r sign.End b = (refl, refl, λ d. refl, refl)
 lone_stopped_follows l c y e q r _ b = tt
 
 -- Where a slot is wanted.
 name_follows : (l : Limits) (c : Context) (h : p.Start) (n r : ℕ) (b : Spot) →
-    Follows l c (t.named_at l n b (at.Named (turns.label n r b)) (start l h (p.start_scope l h)) c)
+    Follows l c (t.named_at l n b (at.Name (name.Named (turns.label n r b))) (start l h (p.start_scope l h)) c)
     (m.simply (v.name_event l (p.start_scope l h) (m.label n r b)) (m.named h (m.label n r b)))
 name_follows l c p.lone n r b = (refl, refl, λ d. refl, refl)
 name_follows l c (p.listed (p.in_world ms)) n r b = (refl, refl, λ d. refl, refl)
@@ -166,7 +172,7 @@ name_follows l c (p.listed (p.in_bars h q d ss)) n r b = (refl, refl, λ d. refl
 name_follows l c (p.listed (p.in_object h q d ss)) n r b = (refl, refl, λ d. refl, refl)
 
 operator_follows : (l : Limits) (c : Context) (h : p.Start) (n : ℕ) (k : Role) (b : Spot) →
-    Follows l c (t.named_at l n b (at.OperatorNamed n b) (start l h (p.start_scope l h)) c)
+    Follows l c (t.named_at l n b (at.Name (name.Operator n b)) (start l h (p.start_scope l h)) c)
     (m.simply (v.operator_event l (p.start_scope l h) (v.operator_of n k b)) (m.operator_named h (v.operator_of n k b)))
 operator_follows l c p.lone n k b = (refl, refl, λ d. refl, refl)
 operator_follows l c (p.listed (p.in_world ms)) n k b = (refl, refl, λ d. refl, refl)
@@ -347,7 +353,7 @@ keyword_wanting_follows l c h n q _ b = tt
 simple_follows : (l : Limits) (c : Context) (h : p.Contents) (d : g.Simple) (i : Item) (k : Bool) → ends_with_path d ≡ k →
     Follows l c (held.simple_constant i k (contents l h) c) (v.simple_move h d i)
 simple_follows l c (p.undecided h w e) d i k is =
-    (refl, refl, λ d. refl, ap (λ z. stand (at.MemberDone (s.slot_item w form.Constant) z) (lists l h (name_scope l w (p.scope_of l h)))) (sym is))
+    (refl, refl, λ d. refl, ap (λ z. stand (at.Behind (end.Member (s.slot_item w form.Constant) z)) (lists l h (name_scope l w (p.scope_of l h)))) (sym is))
 simple_follows l c (p.coded h x e) d i k is = tt
 
 paren_follows : (l : Limits) (c : Context) (h : p.Contents) (b : Spot) →
@@ -372,13 +378,13 @@ holding_follows l c h _ b = tt
 datum_follows : (l : Limits) (c : Context) (h : p.DataHole) (d : g.Simple) (i : Item) (k : Bool) → ends_with_path d ≡ k →
     Follows l c (held.simple_datum i k (data_frames l h) c) (m.simply (saying i) (v.datum_done h (g.simple d)))
 datum_follows l c (p.assigned h w a) d i k is =
-    (refl, refl, λ d. refl, ap (λ z. stand (at.MemberDone (s.slot_item w (form.Assignable w.setter)) z) (lists l h (set_scope l w (p.scope_of l h)))) (sym is))
+    (refl, refl, λ d. refl, ap (λ z. stand (at.Behind (end.Member (s.slot_item w (form.Assignable w.setter)) z)) (lists l h (set_scope l w (p.scope_of l h)))) (sym is))
 datum_follows l c (p.parental (p.in_world ms) w y e) d i k is =
-    (refl, refl, λ d. refl, ap (λ z. stand (at.MemberDone (s.slot_item w form.Parent) z) (lists l (p.in_world ms) (not_plain (name_scope l w (p.scope_of l (p.in_world ms)))))) (sym is))
+    (refl, refl, λ d. refl, ap (λ z. stand (at.Behind (end.Member (s.slot_item w form.Parent) z)) (lists l (p.in_world ms) (not_plain (name_scope l w (p.scope_of l (p.in_world ms)))))) (sym is))
 datum_follows l c (p.parental (p.in_bars h q u ss) w y e) d i k is =
-    (refl, refl, λ d. refl, ap (λ z. stand (at.MemberDone (s.slot_item w form.Parent) z) (lists l (p.in_bars h q u ss) (not_plain (name_scope l w (p.scope_of l (p.in_bars h q u ss)))))) (sym is))
+    (refl, refl, λ d. refl, ap (λ z. stand (at.Behind (end.Member (s.slot_item w form.Parent) z)) (lists l (p.in_bars h q u ss) (not_plain (name_scope l w (p.scope_of l (p.in_bars h q u ss)))))) (sym is))
 datum_follows l c (p.parental (p.in_object h q u ss) w y e) d i k is =
-    (refl, refl, λ d. refl, ap (λ z. stand (at.MemberDone (s.slot_item w form.Parent) z) (lists l (p.in_object h q u ss) (not_plain (name_scope l w (p.scope_of l (p.in_object h q u ss)))))) (sym is))
+    (refl, refl, λ d. refl, ap (λ z. stand (at.Behind (end.Member (s.slot_item w form.Parent) z)) (lists l (p.in_object h q u ss) (not_plain (name_scope l w (p.scope_of l (p.in_object h q u ss)))))) (sym is))
 
 pub data_wanted_follows : (l : Limits) (c : Context) (h : p.DataHole) (x : Symbol) (b : Spot) → Follows l c (held.data_wanted_turn (data_frames l h) c x b) (v.data_wanted_move h x b)
 data_wanted_follows l c h (sign.Integer z) b = datum_follows l c h (g.integer z b) (items.Integer z) false refl
@@ -389,12 +395,12 @@ data_wanted_follows l c h _ b = tt
 
 -- and an object as contents
 marked_follows : (l : Limits) (c : Context) (h : p.Lists) (u : Scope) (e : Event) (y : g.Member) → member_scope l y (p.scope_of l h) ≡ not_plain u →
-    Follows l c (held.marked_at e (at.MemberDone (member_item y) (member_goes_on y)) (lists l h u) c) (m.simply e (m.member_done h y))
-marked_follows l c (p.in_world ms) u e y is = (refl, refl, λ d. refl, ap (λ z. stand (at.MemberDone (member_item y) (member_goes_on y)) (lists l (p.in_world ms) z)) (sym is))
+    Follows l c (held.marked_at e (at.Behind (end.Member (member_item y) (member_goes_on y))) (lists l h u) c) (m.simply e (m.member_done h y))
+marked_follows l c (p.in_world ms) u e y is = (refl, refl, λ d. refl, ap (λ z. stand (at.Behind (end.Member (member_item y) (member_goes_on y))) (lists l (p.in_world ms) z)) (sym is))
 marked_follows l c (p.in_bars h q d ss) u e y is =
-    (refl, refl, λ d. refl, ap (λ z. stand (at.MemberDone (member_item y) (member_goes_on y)) (lists l (p.in_bars h q d ss) z)) (sym is))
+    (refl, refl, λ d. refl, ap (λ z. stand (at.Behind (end.Member (member_item y) (member_goes_on y))) (lists l (p.in_bars h q d ss) z)) (sym is))
 marked_follows l c (p.in_object h q d ss) u e y is =
-    (refl, refl, λ d. refl, ap (λ z. stand (at.MemberDone (member_item y) (member_goes_on y)) (lists l (p.in_object h q d ss) z)) (sym is))
+    (refl, refl, λ d. refl, ap (λ z. stand (at.Behind (end.Member (member_item y) (member_goes_on y))) (lists l (p.in_object h q d ss) z)) (sym is))
 
 object_datum_follows : (l : Limits) (c : Context) (h : p.DataHole) (e : Event) (o : g.Object) →
     Follows l c (held.object_datum e (data_frames l h) c) (m.simply e (v.datum_done h (g.object o)))
@@ -409,9 +415,9 @@ begins_behind l c k (Some y) None is = is
 begins_behind l c k (Some y) (Some z) is = is
 
 opened_code : (l : Limits) (c : Context) (h : p.Contents) (q : Spot) (x : Symbol) (b : Spot) →
-    Follows l c (begun (f.Statement false ∷ f.Code ∷ contents l h) (turns.entered c) x b) (v.code_begins h q x b)
+    Follows l c (begun (f.Expression (expression.Statement false) ∷ f.Body body.Method ∷ contents l h) (turns.entered c) x b) (v.code_begins h q x b)
 opened_code l c h q x b =
-    begins_behind l c m.enter (begun (f.Statement false ∷ f.Code ∷ contents l h) (turns.entered c) x b) (m.begin_move (p.alone (p.statement (p.in_method h q) g.none)) x b)
+    begins_behind l c m.enter (begun (f.Expression (expression.Statement false) ∷ f.Body body.Method ∷ contents l h) (turns.entered c) x b) (m.begin_move (p.alone (p.statement (p.in_method h q) g.none)) x b)
     (begin_follows l (m.enter c) (p.alone (p.statement (p.in_method h q) g.none)) x b)
 
 empty_follows : (l : Limits) (c : Context) (h : p.Contents) (q b : Spot) → Follows l c (held.object_constant (held.empty_end q) (contents l h) c) (v.empty_object_move h q b)
@@ -432,7 +438,7 @@ data_opened_follows l c h q _ b = tt
 
 -- the first sign of code behind bars, by what surrounds it
 told_is : (l : Limits) (h : p.Contents) (sl : g.Slots) (c : Context) (x : Symbol) (b : Spot) →
-    held.code_turn (slots_scope l sl (p.named_of l h).inner) (contents l h) c x b ≡ begun (f.Statement false ∷ f.Code ∷ contents l h) (v.barred_pre l h sl c) x b
+    held.code_turn (slots_scope l sl (p.named_of l h).inner) (contents l h) c x b ≡ begun (f.Expression (expression.Statement false) ∷ f.Body body.Method ∷ contents l h) (v.barred_pre l h sl c) x b
 told_is l (p.undecided h w e) sl c x b = refl
 told_is l (p.coded h (g.unary_head w) e) sl c x b = refl
 told_is l (p.coded h (g.operator_with o a) e) sl c x b = refl

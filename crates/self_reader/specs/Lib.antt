@@ -1,5 +1,3 @@
-pub mod ContentTurns
-pub mod LocalTurns
 pub mod Reading
 pub mod Settling
 pub mod Texts

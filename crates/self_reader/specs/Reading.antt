@@ -13,8 +13,11 @@ use Rattle.self_reader.specs.declared.stops.ReadStop.TheVariants as stops
 use Rattle.self_grammar.specs.Scopes.{scope, holder}
 use Rattle.self_grammar.specs.Spelling.{at_first}
 use Rattle.reader_states.specs.declared.frames.At.TheVariants as at
+use Rattle.reader_states.specs.declared.frames.AtName.TheVariants as name
 use Rattle.reader_states.specs.declared.frames.Frame.{Frame}
 use Rattle.reader_states.specs.declared.frames.Frame.TheVariants as f
+use Rattle.reader_states.specs.declared.frames.Holder.TheVariants as list_of
+use Rattle.reader_states.specs.declared.frames.Slots.TheVariants as slots
 use Rattle.self_reader.specs.declared.reading.Reader.{Reader}
 use Rattle.reader_states.specs.Turns.{Turn, after}
 use Rattle.self_reader.specs.Turning.{turn}
@@ -74,10 +77,10 @@ Answers view (Err stops.OutOfMemory) y = Unit {0}
 
 -- a reader before the first sign of the list of slots that this frame stands for, in a text of so many slots and objects
 abbrev pub before_list : Frame → ℕ → Reader
-before_list list size = record { at = at.Slot; frames = list ∷ []; counts = at_first size; wants = None }
+before_list list size = record { at = at.Name name.Slot; frames = list ∷ []; counts = at_first size; wants = None }
 
 abbrev pub before_world : Reader
-before_world = before_list (f.World (scope holder)) 1
+before_world = before_list (f.Slots (slots.List list_of.World (scope holder))) 1
 
 abbrev pub before_edit : Reader
-before_edit = before_list f.Edit 0
+before_edit = before_list (f.Slots slots.Edit) 0

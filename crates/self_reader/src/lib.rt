@@ -2,11 +2,9 @@
 //
 // Model: a text is the list of its signs (`specs/Signs.antt` of self_signs); what it says, and where it is refused, are the
 // definitions of self_grammar. The reader is a machine that takes one sign after the other, with a stack of what is open
-// (reader_states); code_reader and slot_reader have most of what a sign does.
+// (reader_states); code_reader, slot_reader and contents_reader have what a sign does.
 #![tactic(auto)]
 
-mod contents;
-mod locals;
 mod reading;
 mod settling;
 mod stops;

@@ -3,7 +3,7 @@ ghost use Rattle.std.specs.Prelude.{◌≡◌, ◌++◌, OnOk, IfOk};
 ghost use Rattle.self_grammar.specs.Refusal.{kind_of, bad_syntax};
 ghost use Rattle.self_grammar.specs.Spelling.{at_first};
 ghost use Rattle.reader_states.specs.Turns.{turn_in};
-ghost use Rattle.self_reader.specs.Reading.{missing_bar, settled, fed, said_by, said_at, all_said, Answers, before_list};
+ghost use Rattle.self_reader.specs.Reading.{missing_bar, settled, fed, said_by, said_at, all_said, Answers, before_list, before_world};
 ghost use Rattle.self_grammar.specs.Grammar.{World, Edit};
 ghost use Rattle.self_grammar.specs.Spelling.{world, edit, items_of};
 ghost use Rattle.self_grammar.specs.Refusal.{IsText};
@@ -13,7 +13,9 @@ ghost use Rattle.self_reader.specs.Turning.{turn};
 use crate::settling::settle;
 use crate::stops::ReadStop;
 use crate::turning::turn;
-use reader_states::{At, Counts, Frame, Owner, Scope, Stack, Stop, Turn};
+use reader_states::{
+    At, AtName, Counts, Frame, Holder, Owner, Scope, Slots, Stack, Stop, Tally, Turn,
+};
 use self_grammar::{Item, Limits, ReadKind, ReadRefusal, Sign, Spot, Symbol};
 use self_tokens::Fault;
 use std::alloc::{AllocError, Global};
@@ -60,6 +62,7 @@ fn missing_bar(wants: Option<Spot>, symbol: Symbol) -> Option<Spot>
 }
 
 fn settle_turn(
+    alloc: Global,
     limits: Limits,
     turn: Turn,
     spot: Spot,
@@ -75,7 +78,8 @@ fn settle_turn(
         at,
         frames,
     } = turn;
-    let counts = settle(limits, counts, event, post, spot, items)?;
+    let tally = settle(limits, counts.into_tally(), event, post, spot, items)?;
+    let counts = Counts::new(alloc, tally)?;
     Ok(Reader {
         at,
         frames,
@@ -102,7 +106,7 @@ fn go(
         wants: _,
     } = reader;
     match turn(alloc, limits, at, frames, counts, sign.symbol, sign.spot) {
-        Ok(turn) => return settle_turn(limits, turn, sign.spot, items),
+        Ok(turn) => return settle_turn(alloc, limits, turn, sign.spot, items),
         Err(Stop::BadSyntax) => return Err(ReadStop::Refused(bad_syntax(sign.spot))),
         Err(Stop::OutOfMemory) => return Err(ReadStop::OutOfMemory),
     }
@@ -152,10 +156,10 @@ fn read_signs(
 }
 
 // Before anything is counted, in a text of so many slots and objects.
-fn no_counts(alloc: Global, size: usize) -> Counts
+fn no_counts(alloc: Global, size: usize) -> Tally
     ensures { result ≡ at_first size }
 {
-    Counts {
+    Tally {
         nesting: 0,
         pending: 0,
         nodes: 0,
@@ -173,12 +177,21 @@ fn before(alloc: Global, frame: Frame, size: usize) -> Result<Reader, AllocError
 {
     let mut frames = Stack::new(alloc);
     frames.push(frame)?;
+    let counts = Counts::new(alloc, no_counts(alloc, size))?;
     Ok(Reader {
-        at: At::Slot,
+        at: At::Name(AtName::Slot),
         frames,
-        counts: no_counts(alloc, size),
+        counts,
         wants: None,
     })
+}
+
+// A reader before the first sign of a world.
+fn before_world(alloc: Global) -> Result<Reader, AllocError>
+    ensures { IfOk result (λ reader. reader ≡ before_world) }
+{
+    let scope = Scope::open(alloc, Owner::Holder)?;
+    before(alloc, Frame::Slots(Slots::List(Holder::World, scope)), 1)
 }
 
 // The items of the world that these signs spell, the last of which is the end or a fault.
@@ -195,7 +208,7 @@ pub(crate) fn read_world_signs(
     // A refusal stands at the first sign at which something is wrong, for what is wrong there first.
     ensures refused { IsRightlyRefused World (world limits) signs.now result }
 {
-    let Ok(start) = before(alloc, Frame::World(Scope::open(alloc, Owner::Holder)), 1) else {
+    let Ok(start) = before_world(alloc) else {
         return Err(ReadStop::OutOfMemory);
     };
     read_signs(alloc, limits, signs, start)
@@ -215,7 +228,7 @@ pub(crate) fn read_edit_signs(
     // A refusal stands at the first sign at which something is wrong, for what is wrong there first.
     ensures refused { IsRightlyRefused Edit (edit limits) signs.now result }
 {
-    let Ok(start) = before(alloc, Frame::Edit, 0) else {
+    let Ok(start) = before(alloc, Frame::Slots(Slots::Edit), 0) else {
         return Err(ReadStop::OutOfMemory);
     };
     read_signs(alloc, limits, signs, start)

@@ -6,7 +6,7 @@ ghost use Rattle.reader_states.specs.Turns.{listed, event_in, after};
 ghost use Rattle.self_reader.specs.Settling.{or_sooner, first_at, too_deep, broken_at, HasRoom, sums_behind, Settles};
 
 use crate::stops::ReadStop;
-use reader_states::{Counts, Event, Post, Stack};
+use reader_states::{Event, Post, Stack, Tally};
 use self_grammar::{
     Breach, Held, Item, Limits, Made, ReadKind, ReadRefusal, Spot, Target, TextNode,
 };
@@ -262,7 +262,7 @@ fn say(
 }
 
 // The counts of the body around, behind the end of one.
-fn resume(counts: Counts) -> Counts
+fn resume(counts: Tally) -> Tally
     ensures { result ≡ resumed counts.around counts }
 {
     let mut counts = counts;
@@ -274,7 +274,7 @@ fn resume(counts: Counts) -> Counts
     counts
 }
 
-fn leave(counts: Counts, leaves: bool) -> Counts
+fn leave(counts: Tally, leaves: bool) -> Tally
     ensures { result ≡ (if leaves then resumed counts.around counts else counts) }
 {
     if leaves {
@@ -284,7 +284,7 @@ fn leave(counts: Counts, leaves: bool) -> Counts
 }
 
 // What is counted behind a sign.
-fn go_on(counts: Counts, post: Post) -> Result<Counts, AllocError>
+fn go_on(counts: Tally, post: Post) -> Result<Tally, AllocError>
     ensures { IfOk result (λ c. c ≡ after post counts) }
 {
     match post {
@@ -353,7 +353,7 @@ fn behind(
     made: Vec<Made>,
     late: Vec<Breach>,
     ready: Vec<Item>,
-) -> Counts
+) -> Tally
     ensures { result ≡ record {
       nesting = sums.nesting;
       pending = sums.pending;
@@ -371,7 +371,7 @@ fn behind(
     late.clear();
     let mut ready = ready;
     ready.clear();
-    Counts {
+    Tally {
         nesting: sums.nesting,
         pending: sums.pending,
         nodes: sums.nodes,
@@ -387,16 +387,16 @@ fn behind(
 // there come behind those so far.
 pub(crate) fn settle(
     limits: Limits,
-    counts: Counts,
+    counts: Tally,
     event: Event,
     post: Post,
     spot: Spot,
     items: &mut Vec<Item>,
-) -> Result<Counts, ReadStop>
+) -> Result<Tally, ReadStop>
     ensures settled { Settles result (first_at spot (breaches limits counts (event_in event))) (after post (moved counts (event_in event))) }
     ensures items { OnOk result (items.new.items ≡ items.old.items ++ items_at counts (event_in event)) }
 {
-    let Counts {
+    let Tally {
         nesting,
         pending,
         nodes,

@@ -1,13 +1,16 @@
 // What a sign does, by where it stands.
 ghost use Rattle.reader_states.specs.Turns.{Turns};
-ghost use Rattle.self_reader.specs.Turning.{turn, turn_at_slot, turn_in_head, turn_in_contents, turn_behind, turn_in_block};
+ghost use Rattle.self_reader.specs.Turning.{turn, turn_in_code, turn_in_name, turn_in_arguments, turn_in_contents, turn_in_data, turn_behind, turn_in_block};
 
-use crate::contents::{
-    take_contents, take_data, take_data_opened, take_data_shut, take_opened, take_shut,
-};
-use crate::locals::{at_local, local_arrow, local_done, local_equals, local_named};
 use code_reader::{begin, end, follow_delegate, go_on};
-use reader_states::{At, Counts, Frame, Stack, Stop, Turn};
+use contents_reader::{
+    at_local, local_arrow, local_done, local_equals, local_named, take_contents, take_data,
+    take_data_opened, take_data_shut, take_opened, take_shut,
+};
+use reader_states::{
+    At, AtArgument, AtCode, AtContents, AtData, AtEnd, AtLocal, AtName, Counts, Frame, Scope,
+    Stack, Stop, Turn,
+};
 use self_grammar::{Limits, Spot, Symbol};
 use slot_reader::{
     begin_slot, follow_argument, follow_keyword_argument, follow_keywords, follow_lone,
@@ -16,10 +19,150 @@ use slot_reader::{
 };
 use std::alloc::Global;
 
+// In code.
+fn turn_in_code(
+    alloc: Global,
+    limits: Limits,
+    at: AtCode,
+    frames: Stack<Frame>,
+    counts: Counts,
+    symbol: Symbol,
+    spot: Spot,
+) -> Result<Turn, Stop>
+    ensures { Turns result (turn_in_code limits at frames counts symbol spot) }
+{
+    match at {
+        AtCode::Wanting => return begin(alloc, frames, counts, symbol, spot),
+        AtCode::Having => return go_on(limits, frames, counts, symbol, spot),
+        AtCode::Delegated { to, spot: begin } => {
+            return follow_delegate(to, begin, frames, counts, symbol, spot);
+        }
+        AtCode::Ended => return end(frames, counts, symbol, spot),
+    }
+}
+
+// In the name of a slot.
+fn turn_in_name(
+    alloc: Global,
+    limits: Limits,
+    at: AtName,
+    frames: Stack<Frame>,
+    counts: Counts,
+    symbol: Symbol,
+    spot: Spot,
+) -> Result<Turn, Stop>
+    ensures { Turns result (turn_in_name limits at frames counts symbol spot) }
+{
+    match at {
+        AtName::Slot => return begin_slot(alloc, limits, frames, counts, symbol, spot),
+        AtName::Named(label) => return follow_name(alloc, label, frames, counts, symbol),
+        AtName::Starred(label) => return follow_star(label, frames, counts, symbol),
+        AtName::Operator {
+            operator,
+            spot: begin,
+        } => {
+            return follow_operator(alloc, limits, operator, begin, frames, counts, symbol, spot);
+        }
+        AtName::Keyword(heading) => {
+            return follow_keywords(alloc, limits, heading, frames, counts, symbol, spot);
+        }
+    }
+}
+
+// In the name of a slot that has arguments.
+fn turn_in_arguments(
+    limits: Limits,
+    at: AtArgument,
+    inner: Scope,
+    frames: Stack<Frame>,
+    counts: Counts,
+    symbol: Symbol,
+    spot: Spot,
+) -> Result<Turn, Stop>
+    ensures { Turns result (turn_in_arguments limits at inner frames counts symbol spot) }
+{
+    match at {
+        AtArgument::Operator {
+            operator,
+            spot: begin,
+        } => return follow_operand(operator, begin, inner, frames, counts, symbol),
+        AtArgument::Keyword(heading) => {
+            return follow_keyword_argument(limits, heading, inner, frames, counts, symbol);
+        }
+        AtArgument::Wanting(heading) => {
+            return want_keyword_argument(limits, heading, inner, frames, counts, symbol, spot);
+        }
+    }
+}
+
+// In the contents of a slot.
+fn turn_in_contents(
+    alloc: Global,
+    at: AtContents,
+    inner: Scope,
+    frames: Stack<Frame>,
+    counts: Counts,
+    symbol: Symbol,
+    spot: Spot,
+) -> Result<Turn, Stop>
+    ensures { Turns result (turn_in_contents at inner frames counts symbol spot) }
+{
+    match at {
+        AtContents::Wanted => return take_contents(inner, frames, counts, symbol, spot),
+        AtContents::Opened(paren) => {
+            return take_opened(alloc, paren, inner, frames, counts, symbol, spot);
+        }
+        AtContents::Shut(paren) => {
+            return take_shut(alloc, paren, inner, frames, counts, symbol, spot);
+        }
+        AtContents::DataShut(paren) => {
+            return take_data_shut(paren, inner, frames, counts, symbol);
+        }
+    }
+}
+
+// In contents that are no method.
+fn turn_in_data(
+    alloc: Global,
+    at: AtData,
+    frames: Stack<Frame>,
+    counts: Counts,
+    symbol: Symbol,
+    spot: Spot,
+) -> Result<Turn, Stop>
+    ensures { Turns result (turn_in_data at frames counts symbol spot) }
+{
+    match at {
+        AtData::Wanted => return take_data(frames, counts, symbol, spot),
+        AtData::Opened(paren) => return take_data_opened(alloc, paren, frames, counts, symbol),
+    }
+}
+
+// Behind a slot.
+fn turn_behind(
+    alloc: Global,
+    at: AtEnd,
+    frames: Stack<Frame>,
+    counts: Counts,
+    symbol: Symbol,
+    spot: Spot,
+) -> Result<Turn, Stop>
+    ensures { Turns result (turn_behind at frames counts symbol spot) }
+{
+    match at {
+        AtEnd::Method => return follow_method(alloc, frames, counts, symbol),
+        AtEnd::Member { item, path } => {
+            return follow_member(alloc, item, path, frames, counts, symbol, spot);
+        }
+        AtEnd::Argument => return follow_argument(alloc, frames, counts, symbol),
+        AtEnd::Edit => return follow_lone(alloc, frames, counts, symbol),
+    }
+}
+
 // In the slots of a block.
 fn turn_in_block(
     limits: Limits,
-    at: At,
+    at: AtLocal,
     frames: Stack<Frame>,
     counts: Counts,
     symbol: Symbol,
@@ -28,127 +171,17 @@ fn turn_in_block(
     ensures { Turns result (turn_in_block limits at frames counts symbol spot) }
 {
     match at {
-        At::Local => return at_local(limits, frames, counts, symbol, spot),
-        At::LocalNamed(label) => return local_named(label, frames, counts, symbol),
-        At::LocalEquals(label) => return local_equals(label, frames, counts, symbol, spot),
-        At::LocalArrow(label) => return local_arrow(label, frames, counts, symbol, spot),
-        At::LocalDone { item, path } => {
+        AtLocal::Slot => return at_local(limits, frames, counts, symbol, spot),
+        AtLocal::Named(label) => return local_named(label, frames, counts, symbol),
+        AtLocal::Equals(label) => return local_equals(label, frames, counts, symbol, spot),
+        AtLocal::Arrow(label) => return local_arrow(label, frames, counts, symbol, spot),
+        AtLocal::Done { item, path } => {
             return local_done(item, path, frames, counts, symbol, spot);
         }
-        _ => return Err(Stop::BadSyntax),
     }
 }
 
-// Behind a slot.
-fn turn_behind(
-    alloc: Global,
-    limits: Limits,
-    at: At,
-    frames: Stack<Frame>,
-    counts: Counts,
-    symbol: Symbol,
-    spot: Spot,
-) -> Result<Turn, Stop>
-    ensures { Turns result (turn_behind limits at frames counts symbol spot) }
-{
-    match at {
-        At::Behind => return follow_method(alloc, frames, counts, symbol),
-        At::MemberDone { item, path } => {
-            return follow_member(alloc, item, path, frames, counts, symbol, spot);
-        }
-        At::ArgumentDone => return follow_argument(alloc, frames, counts, symbol),
-        At::LoneStopped => return follow_lone(alloc, frames, counts, symbol),
-        other => return turn_in_block(limits, other, frames, counts, symbol, spot),
-    }
-}
-
-// In the contents of a slot.
-fn turn_in_contents(
-    alloc: Global,
-    limits: Limits,
-    at: At,
-    frames: Stack<Frame>,
-    counts: Counts,
-    symbol: Symbol,
-    spot: Spot,
-) -> Result<Turn, Stop>
-    ensures { Turns result (turn_in_contents limits at frames counts symbol spot) }
-{
-    match at {
-        At::Holding(inner) => return take_contents(inner, frames, counts, symbol, spot),
-        At::DataWanted => return take_data(frames, counts, symbol, spot),
-        At::Opened(paren, inner) => {
-            return take_opened(alloc, paren, inner, frames, counts, symbol, spot);
-        }
-        At::DataOpened(paren) => return take_data_opened(alloc, paren, frames, counts, symbol),
-        At::Shut(paren, scope) => {
-            return take_shut(alloc, paren, scope, frames, counts, symbol, spot);
-        }
-        At::DataShut(paren, scope) => return take_data_shut(paren, scope, frames, counts, symbol),
-        other => return turn_behind(alloc, limits, other, frames, counts, symbol, spot),
-    }
-}
-
-// In the name of a slot.
-fn turn_in_head(
-    alloc: Global,
-    limits: Limits,
-    at: At,
-    frames: Stack<Frame>,
-    counts: Counts,
-    symbol: Symbol,
-    spot: Spot,
-) -> Result<Turn, Stop>
-    ensures { Turns result (turn_in_head limits at frames counts symbol spot) }
-{
-    match at {
-        At::OperatorNamed {
-            operator,
-            spot: begin,
-        } => {
-            return follow_operator(alloc, limits, operator, begin, frames, counts, symbol, spot);
-        }
-        At::OperatorArgued {
-            operator,
-            spot: begin,
-            inner,
-        } => {
-            return follow_operand(operator, begin, inner, frames, counts, symbol);
-        }
-        At::KeywordNamed(heading) => {
-            return follow_keywords(alloc, limits, heading, frames, counts, symbol, spot);
-        }
-        At::KeywordArgued(heading, inner) => {
-            return follow_keyword_argument(limits, heading, inner, frames, counts, symbol);
-        }
-        At::KeywordWanting(heading, inner) => {
-            return want_keyword_argument(limits, heading, inner, frames, counts, symbol, spot);
-        }
-        other => return turn_in_contents(alloc, limits, other, frames, counts, symbol, spot),
-    }
-}
-
-// Where a slot is wanted, and behind its first name.
-fn turn_at_slot(
-    alloc: Global,
-    limits: Limits,
-    at: At,
-    frames: Stack<Frame>,
-    counts: Counts,
-    symbol: Symbol,
-    spot: Spot,
-) -> Result<Turn, Stop>
-    ensures { Turns result (turn_at_slot limits at frames counts symbol spot) }
-{
-    match at {
-        At::Slot => return begin_slot(alloc, limits, frames, counts, symbol, spot),
-        At::Named(label) => return follow_name(alloc, label, frames, counts, symbol),
-        At::Starred(label) => return follow_star(label, frames, counts, symbol),
-        other => return turn_in_head(alloc, limits, other, frames, counts, symbol, spot),
-    }
-}
-
-// In code, and elsewhere.
+// Wherever it stands.
 pub(crate) fn turn(
     alloc: Global,
     limits: Limits,
@@ -161,12 +194,17 @@ pub(crate) fn turn(
     ensures { Turns result (turn limits at frames counts symbol spot) }
 {
     match at {
-        At::Wanting => return begin(alloc, frames, counts, symbol, spot),
-        At::Having => return go_on(limits, frames, counts, symbol, spot),
-        At::Delegated { to, spot: begin } => {
-            return follow_delegate(to, begin, frames, counts, symbol, spot);
+        At::Code(at) => return turn_in_code(alloc, limits, at, frames, counts, symbol, spot),
+        At::Name(at) => return turn_in_name(alloc, limits, at, frames, counts, symbol, spot),
+        At::Argued(at, inner) => {
+            return turn_in_arguments(limits, at, inner, frames, counts, symbol, spot);
         }
-        At::Ended => return end(frames, counts, symbol, spot),
-        other => return turn_at_slot(alloc, limits, other, frames, counts, symbol, spot),
+        At::Contents(at, inner) => {
+            return turn_in_contents(alloc, at, inner, frames, counts, symbol, spot);
+        }
+        At::Data(at) => return turn_in_data(alloc, at, frames, counts, symbol, spot),
+        At::Behind(at) => return turn_behind(alloc, at, frames, counts, symbol, spot),
+        At::Local(at) => return turn_in_block(limits, at, frames, counts, symbol, spot),
+        At::Finished => return Err(Stop::BadSyntax),
     }
 }

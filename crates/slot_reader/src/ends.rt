@@ -6,7 +6,8 @@ ghost use Rattle.reader_states.specs.Turns.{event_in, listed, Turns};
 ghost use Rattle.slot_reader.specs.SlotTurns.{misfits, bar_event, shut_coded, shut_at, at_bar, at_end, at_period, done_turn, path_turn, member_done_turn, argument_done, argument_done_turn, lone_done, method_done, slot_done, behind_turn, lone_stopped_turn};
 
 use reader_states::{
-    At, Counts, Event, Frame, Heading, Scope, Stack, Stop, Turn, quiet, saying, simply,
+    At, AtContents, AtEnd, AtName, Contents, Counts, Event, Frame, Heading, Holder, Scope, Slots,
+    Stack, Stop, Turn, pop_list, pop_slot, pop_slots, quiet, saying, simply, within,
 };
 use self_grammar::{Breach, Item, ReadKind, SlotForm, Spot, Symbol, Words};
 use std::alloc::Global;
@@ -47,10 +48,14 @@ fn close_coded(
 ) -> Result<Turn, Stop>
     ensures { Turns result (shut_coded paren scope heading frames counts) }
 {
-    let mut frames = frames;
     let event = bar_event(heading, &scope);
-    frames.push(Frame::Coded(heading))?;
-    simply(counts, event, At::Shut(paren, scope), frames)
+    within(
+        counts,
+        event,
+        At::Contents(AtContents::Shut(paren), scope),
+        Frame::Slot(Contents::Coded(heading)),
+        frames,
+    )
 }
 
 // The bar that closes the slots of what may be a method.
@@ -62,16 +67,18 @@ fn close_slots(
 ) -> Result<Turn, Stop>
     ensures { Turns result (shut_at paren scope frames counts) }
 {
-    let mut frames = frames;
-    let Some(inner) = frames.pop() else {
-        return Err(Stop::BadSyntax);
-    };
-    match inner {
-        Frame::Undecided(label) => {
-            frames.push(Frame::Undecided(label))?;
-            return simply(counts, quiet(), At::Shut(paren, scope), frames);
+    let (contents, frames) = pop_slot(frames)?;
+    match contents {
+        Contents::Undecided(_) => {
+            return within(
+                counts,
+                quiet(),
+                At::Contents(AtContents::Shut(paren), scope),
+                Frame::Slot(contents),
+                frames,
+            );
         }
-        Frame::Coded(heading) => return close_coded(heading, frames, counts, paren, scope),
+        Contents::Coded(heading) => return close_coded(heading, frames, counts, paren, scope),
         _ => return Err(Stop::BadSyntax),
     }
 }
@@ -80,16 +87,18 @@ fn close_slots(
 pub(crate) fn end_at_bar(frames: Stack<Frame>, counts: Counts) -> Result<Turn, Stop>
     ensures { Turns result (at_bar frames counts) }
 {
-    let mut frames = frames;
-    let Some(inner) = frames.pop() else {
-        return Err(Stop::BadSyntax);
-    };
-    match inner {
-        Frame::Bars(paren, scope) => return close_slots(frames, counts, paren, scope),
-        Frame::Object(paren, scope) => {
-            return simply(counts, quiet(), At::DataShut(paren, scope), frames);
+    let (holder, scope, frames) = pop_list(frames)?;
+    match holder {
+        Holder::World => return Err(Stop::BadSyntax),
+        Holder::Bars(paren) => return close_slots(frames, counts, paren, scope),
+        Holder::Object(paren) => {
+            return simply(
+                counts,
+                quiet(),
+                At::Contents(AtContents::DataShut(paren), scope),
+                frames,
+            );
         }
-        _ => return Err(Stop::BadSyntax),
     }
 }
 
@@ -97,8 +106,8 @@ pub(crate) fn end_at_bar(frames: Stack<Frame>, counts: Counts) -> Result<Turn, S
 pub(crate) fn end_at_end(alloc: Global, frames: Stack<Frame>, counts: Counts) -> Result<Turn, Stop>
     ensures { Turns result (at_end frames counts) }
 {
-    let mut frames = frames;
-    let Some(Frame::World(_)) = frames.pop() else {
+    let (holder, _, _) = pop_list(frames)?;
+    let Holder::World = holder else {
         return Err(Stop::BadSyntax);
     };
     simply(counts, quiet(), At::Finished, Stack::new(alloc))
@@ -108,17 +117,14 @@ pub(crate) fn end_at_end(alloc: Global, frames: Stack<Frame>, counts: Counts) ->
 fn end_at_period(frames: Stack<Frame>, counts: Counts) -> Result<Turn, Stop>
     ensures { Turns result (at_period frames counts) }
 {
-    let mut frames = frames;
-    let Some(inner) = frames.pop() else {
-        return Err(Stop::BadSyntax);
-    };
-    match inner {
-        Frame::World(_) | Frame::Bars(_, _) | Frame::Object(_, _) => {
-            frames.push(inner)?;
-            return simply(counts, quiet(), At::Slot, frames);
-        }
-        _ => return Err(Stop::BadSyntax),
-    }
+    let (holder, scope, frames) = pop_list(frames)?;
+    within(
+        counts,
+        quiet(),
+        At::Name(AtName::Slot),
+        Frame::Slots(Slots::List(holder, scope)),
+        frames,
+    )
 }
 
 // A slot ends at this sign, with its item.
@@ -159,7 +165,7 @@ fn follow_path(
     simply(
         counts,
         saying(further),
-        At::MemberDone { item, path },
+        At::Behind(AtEnd::Member { item, path }),
         frames,
     )
 }
@@ -191,14 +197,12 @@ fn end_argument(
 ) -> Result<Turn, Stop>
     ensures { Turns result (argument_done frames counts symbol) }
 {
-    let mut frames = frames;
-    let Some(inner) = frames.pop() else {
-        return Err(Stop::BadSyntax);
-    };
-    if let Frame::World(_) = inner {
+    let (holder, scope, frames) = pop_list(frames)?;
+    if let Holder::World = holder {
         return Err(Stop::BadSyntax);
     }
-    frames.push(inner)?;
+    let mut frames = frames;
+    frames.push(Frame::Slots(Slots::List(holder, scope)))?;
     end_slot(alloc, frames, counts, None, symbol)
 }
 
@@ -229,13 +233,17 @@ fn end_lone(
 ) -> Result<Turn, Stop>
     ensures { Turns result (lone_done item frames counts symbol) }
 {
-    let mut frames = frames;
     let mut counts = counts;
     counts.place(Some(item))?;
     match symbol {
         Symbol::Period => {
-            frames.push(Frame::Edit)?;
-            return simply(counts, quiet(), At::LoneStopped, frames);
+            return within(
+                counts,
+                quiet(),
+                At::Behind(AtEnd::Edit),
+                Frame::Slots(Slots::Edit),
+                frames,
+            );
         }
         Symbol::End => return simply(counts, quiet(), At::Finished, Stack::new(alloc)),
         _ => return Err(Stop::BadSyntax),
@@ -252,28 +260,16 @@ fn end_method(
 ) -> Result<Turn, Stop>
     ensures { Turns result (method_done item frames counts symbol) }
 {
-    let mut frames = frames;
-    let Some(inner) = frames.pop() else {
-        return Err(Stop::BadSyntax);
-    };
-    match inner {
-        Frame::World(mut scope) => {
+    let (slots, frames) = pop_slots(frames)?;
+    match slots {
+        Slots::List(holder, scope) => {
+            let mut scope = scope;
+            let mut frames = frames;
             scope.mark_object();
-            frames.push(Frame::World(scope))?;
+            frames.push(Frame::Slots(Slots::List(holder, scope)))?;
             return end_slot(alloc, frames, counts, Some(item), symbol);
         }
-        Frame::Bars(paren, mut scope) => {
-            scope.mark_object();
-            frames.push(Frame::Bars(paren, scope))?;
-            return end_slot(alloc, frames, counts, Some(item), symbol);
-        }
-        Frame::Object(paren, mut scope) => {
-            scope.mark_object();
-            frames.push(Frame::Object(paren, scope))?;
-            return end_slot(alloc, frames, counts, Some(item), symbol);
-        }
-        Frame::Edit => return end_lone(alloc, item, frames, counts, symbol),
-        _ => return Err(Stop::BadSyntax),
+        Slots::Edit => return end_lone(alloc, item, frames, counts, symbol),
     }
 }
 
@@ -297,16 +293,13 @@ fn end_coded(
 ) -> Result<Turn, Stop>
     ensures { Turns result (slot_done frames counts symbol) }
 {
-    let mut frames = frames;
-    let Some(inner) = frames.pop() else {
-        return Err(Stop::BadSyntax);
-    };
-    match inner {
-        Frame::Undecided(label) => {
+    let (contents, frames) = pop_slot(frames)?;
+    match contents {
+        Contents::Undecided(label) => {
             let item = method_item(Words::One(label.name), label.spot);
             return end_method(alloc, item, frames, counts, symbol);
         }
-        Frame::Coded(heading) => {
+        Contents::Coded(heading) => {
             let item = method_item(heading.words, heading.spot);
             return end_method(alloc, item, frames, counts, symbol);
         }

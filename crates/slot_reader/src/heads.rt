@@ -1,40 +1,30 @@
 // Reads a sign at the head of a slot: where a slot is wanted, and behind a part of its name.
 ghost use Rattle.std.specs.Prelude.{◌≡◌, ◌∷◌, [], IfOk, OnOk};
 ghost use Rattle.self_grammar.specs.declared.pieces.Item.TheVariants as items;
-ghost use Rattle.self_grammar.specs.declared.pieces.SlotForm.TheVariants as form;
 ghost use Rattle.self_grammar.specs.declared.signs.Spot.{Spot as Place};
 ghost use Rattle.self_grammar.specs.Counts.{quiet};
-ghost use Rattle.self_grammar.specs.Scopes.{scope, either, again, with_argument, with_local};
+ghost use Rattle.self_grammar.specs.Scopes.{with_argument, with_local};
 ghost use Rattle.reader_states.specs.declared.frames.At.TheVariants as at;
+ghost use Rattle.reader_states.specs.declared.frames.AtArgument.TheVariants as argued;
+ghost use Rattle.reader_states.specs.declared.frames.AtContents.TheVariants as held;
+ghost use Rattle.reader_states.specs.declared.frames.AtData.TheVariants as data_at;
+ghost use Rattle.reader_states.specs.declared.frames.AtName.TheVariants as name_at;
+ghost use Rattle.reader_states.specs.declared.frames.Contents.TheVariants as contents;
 ghost use Rattle.reader_states.specs.declared.frames.Frame.TheVariants as f;
-ghost use Rattle.reader_states.specs.Turns.{event_in, Turns, simply, if_free, name_event, slot_item, told, with_name, with_setter};
-ghost use Rattle.slot_reader.specs.SlotTurns.{argument_at, argument_event, arrow_turn, bare_turn, coded_turn, equals_turn, first_argument, head_argument, if_equals, keyword_argued_turn, keyword_at, keyword_event, keyword_named_turn, keyword_wanting_turn, lone_event, longer, named_at, named_role, named_turn, operator_argued_turn, operator_heading, operator_named_turn, part_event, setter_event, slot_turn, star_turn, starred_turn, with_words, words_event};
+ghost use Rattle.reader_states.specs.declared.frames.Slots.TheVariants as slots;
+ghost use Rattle.reader_states.specs.Turns.{event_in, Turns, simply, if_free, argument_event};
+ghost use Rattle.slot_reader.specs.SlotTurns.{argument_at, arrow_turn, bare_turn, coded_in, coded_turn, equals_in, equals_turn, first_argument, head_argument, if_equals, keyword_argued_turn, keyword_at, keyword_event, keyword_named_turn, keyword_wanting_turn, lone_event, longer, named_at, named_role, named_turn, operator_argued_turn, operator_heading, operator_named_turn, part_event, slot_turn, star_turn, starred_turn, with_words, words_event};
 
 use crate::ends::{end_at_bar, end_at_end, end_slot};
 use reader_states::{
-    At, Counts, Event, Frame, Heading, Label, Owner, Scope, Stack, Stop, Turn, duplicate, quiet,
-    simply, too_many_arguments,
+    At, AtArgument, AtContents, AtData, AtEnd, AtName, Contents, Counts, Event, Frame, Heading,
+    Holder, Label, Owner, Scope, Slots, Stack, Stop, Turn, argument_in, duplicate, name_in,
+    pop_list, pop_slots, quiet, setter_in, simply, slot_item, too_many_arguments, within,
 };
 use self_grammar::{Item, Limits, Reserved, Role, SlotForm, Spot, Symbol, Words};
 use std::alloc::{AllocError, Global};
 
-// A list gets a slot of this name, which begins there.
-fn name_in(limits: Limits, scope: &mut Scope, name: u32, spot: Spot) -> Result<Event, AllocError>
-    ensures list { OnOk result (scope.new ≡ with_name limits name spot scope.old) }
-    ensures event { IfOk result (λ event. event_in event ≡ name_event limits scope.old name spot) }
-{
-    let broken = scope.too_many_locals(limits);
-    scope.add_local(limits, spot)?;
-    let again = scope.add(Words::One(name))?;
-    Ok(Event {
-        counted: Some(spot),
-        broken,
-        broken_too: duplicate(again, spot),
-        ..quiet()
-    })
-}
-
-// It gets one whose name in keywords isn't known yet,
+// A list gets a slot whose name in keywords isn't known yet,
 fn keyword_in(limits: Limits, scope: &mut Scope, spot: Spot) -> Result<Event, AllocError>
     ensures list { OnOk result (scope.new ≡ with_local limits spot scope.old) }
     ensures event { IfOk result (λ event. event_in event ≡ keyword_event limits scope.old spot) }
@@ -56,40 +46,6 @@ fn words_in(scope: &mut Scope, heading: Heading) -> Result<Event, AllocError>
     let again = scope.add(heading.words)?;
     Ok(Event {
         broken: duplicate(again, heading.spot),
-        ..quiet()
-    })
-}
-
-// It gets an argument, with its item.
-fn argument_in(
-    limits: Limits,
-    scope: &mut Scope,
-    item: Item,
-    name: u32,
-    spot: Spot,
-) -> Result<Event, AllocError>
-    ensures list { OnOk result (scope.new ≡ with_argument (name ∷ []) scope.old) }
-    ensures event { IfOk result (λ event. event_in event ≡ argument_event limits scope.old item name spot) }
-{
-    let broken = scope.too_many_arguments(limits);
-    let again = scope.add_argument(name)?;
-    Ok(Event {
-        says: Some(item),
-        counted: Some(spot),
-        broken,
-        broken_too: duplicate(again, spot),
-        ..quiet()
-    })
-}
-
-// It gets an assignment slot.
-fn setter_in(scope: &mut Scope, label: Label) -> Result<Event, AllocError>
-    ensures list { OnOk result (scope.new ≡ with_setter label scope.old) }
-    ensures event { IfOk result (λ event. event_in event ≡ setter_event label scope.old) }
-{
-    let again = scope.add(Words::One(label.setter))?;
-    Ok(Event {
-        broken: duplicate(again, label.spot),
         ..quiet()
     })
 }
@@ -119,34 +75,34 @@ fn begin_name(
     limits: Limits,
     name: u32,
     spot: Spot,
-    at: At,
+    place: AtName,
     frames: Stack<Frame>,
     counts: Counts,
 ) -> Result<Turn, Stop>
-    ensures { Turns result (named_at limits name spot at frames counts) }
+    ensures { Turns result (named_at limits name spot (at.Name place) frames counts) }
 {
-    let mut frames = frames;
-    match frames.pop() {
-        Some(Frame::World(mut scope)) => {
+    let (slots, frames) = pop_slots(frames)?;
+    match slots {
+        Slots::List(holder, scope) => {
+            let mut scope = scope;
             let event = name_in(limits, &mut scope, name, spot)?;
-            frames.push(Frame::World(scope))?;
-            return simply(counts, event, at, frames);
+            return within(
+                counts,
+                event,
+                At::Name(place),
+                Frame::Slots(Slots::List(holder, scope)),
+                frames,
+            );
         }
-        Some(Frame::Bars(paren, mut scope)) => {
-            let event = name_in(limits, &mut scope, name, spot)?;
-            frames.push(Frame::Bars(paren, scope))?;
-            return simply(counts, event, at, frames);
+        Slots::Edit => {
+            return within(
+                counts,
+                lone_event(spot),
+                At::Name(place),
+                Frame::Slots(Slots::Edit),
+                frames,
+            );
         }
-        Some(Frame::Object(paren, mut scope)) => {
-            let event = name_in(limits, &mut scope, name, spot)?;
-            frames.push(Frame::Object(paren, scope))?;
-            return simply(counts, event, at, frames);
-        }
-        Some(Frame::Edit) => {
-            frames.push(Frame::Edit)?;
-            return simply(counts, lone_event(spot), at, frames);
-        }
-        _ => return Err(Stop::BadSyntax),
     }
 }
 
@@ -154,34 +110,34 @@ fn begin_name(
 fn begin_keyword(
     limits: Limits,
     spot: Spot,
-    at: At,
+    place: AtName,
     frames: Stack<Frame>,
     counts: Counts,
 ) -> Result<Turn, Stop>
-    ensures { Turns result (keyword_at limits spot at frames counts) }
+    ensures { Turns result (keyword_at limits spot (at.Name place) frames counts) }
 {
-    let mut frames = frames;
-    match frames.pop() {
-        Some(Frame::World(mut scope)) => {
+    let (slots, frames) = pop_slots(frames)?;
+    match slots {
+        Slots::List(holder, scope) => {
+            let mut scope = scope;
             let event = keyword_in(limits, &mut scope, spot)?;
-            frames.push(Frame::World(scope))?;
-            return simply(counts, event, at, frames);
+            return within(
+                counts,
+                event,
+                At::Name(place),
+                Frame::Slots(Slots::List(holder, scope)),
+                frames,
+            );
         }
-        Some(Frame::Bars(paren, mut scope)) => {
-            let event = keyword_in(limits, &mut scope, spot)?;
-            frames.push(Frame::Bars(paren, scope))?;
-            return simply(counts, event, at, frames);
+        Slots::Edit => {
+            return within(
+                counts,
+                lone_event(spot),
+                At::Name(place),
+                Frame::Slots(Slots::Edit),
+                frames,
+            );
         }
-        Some(Frame::Object(paren, mut scope)) => {
-            let event = keyword_in(limits, &mut scope, spot)?;
-            frames.push(Frame::Object(paren, scope))?;
-            return simply(counts, event, at, frames);
-        }
-        Some(Frame::Edit) => {
-            frames.push(Frame::Edit)?;
-            return simply(counts, lone_event(spot), at, frames);
-        }
-        _ => return Err(Stop::BadSyntax),
     }
 }
 
@@ -195,20 +151,19 @@ fn add_argument(
 ) -> Result<Turn, Stop>
     ensures { Turns result (argument_at limits name spot frames counts) }
 {
-    let mut frames = frames;
-    match frames.pop() {
-        Some(Frame::Bars(paren, mut scope)) => {
-            let event = argument_in(limits, &mut scope, Item::Argument(name), name, spot)?;
-            frames.push(Frame::Bars(paren, scope))?;
-            return simply(counts, event, At::ArgumentDone, frames);
-        }
-        Some(Frame::Object(paren, mut scope)) => {
-            let event = argument_in(limits, &mut scope, Item::Argument(name), name, spot)?;
-            frames.push(Frame::Object(paren, scope))?;
-            return simply(counts, event, At::ArgumentDone, frames);
-        }
-        _ => return Err(Stop::BadSyntax),
+    let (holder, scope, frames) = pop_list(frames)?;
+    if let Holder::World = holder {
+        return Err(Stop::BadSyntax);
     }
+    let mut scope = scope;
+    let event = argument_in(limits, &mut scope, Item::Argument(name), name, spot)?;
+    within(
+        counts,
+        event,
+        At::Behind(AtEnd::Argument),
+        Frame::Slots(Slots::List(holder, scope)),
+        frames,
+    )
 }
 
 // A name that is not reserved begins a slot,
@@ -219,7 +174,7 @@ fn begin_free(
     frames: Stack<Frame>,
     counts: Counts,
 ) -> Result<Turn, Stop>
-    ensures { Turns result (if_free reserved (named_at limits label.name label.spot (at.Named label) frames counts)) }
+    ensures { Turns result (if_free reserved (named_at limits label.name label.spot (at.Name (name_at.Named label)) frames counts)) }
 {
     let Reserved::Free = reserved else {
         return Err(Stop::BadSyntax);
@@ -228,7 +183,7 @@ fn begin_free(
         limits,
         label.name,
         label.spot,
-        At::Named(label),
+        AtName::Named(label),
         frames,
         counts,
     )
@@ -275,7 +230,7 @@ pub fn begin_slot(
             return add_free(limits, name, reserved, spot, frames, counts);
         }
         Symbol::Operator { name, .. } => {
-            let at = At::OperatorNamed {
+            let at = AtName::Operator {
                 operator: name,
                 spot,
             };
@@ -287,7 +242,7 @@ pub fn begin_slot(
                 wanted: 1,
                 spot,
             };
-            return begin_keyword(limits, spot, At::KeywordNamed(heading), frames, counts);
+            return begin_keyword(limits, spot, AtName::Keyword(heading), frames, counts);
         }
         Symbol::Bar => return end_at_bar(frames, counts),
         Symbol::End => return end_at_end(alloc, frames, counts),
@@ -302,46 +257,52 @@ fn hold_lone(
     frames: Stack<Frame>,
     counts: Counts,
 ) -> Result<Turn, Stop>
-    ensures { Turns result (equals_turn label (f.Edit ∷ frames) counts) }
+    ensures { Turns result (equals_in label slots.Edit frames counts) }
 {
-    let mut frames = frames;
-    frames.push(Frame::Edit)?;
-    frames.push(Frame::Coded(Heading {
+    let heading = Heading {
         words: Words::One(label.name),
         wanted: 0,
         spot: label.spot,
-    }))?;
-    let inner = Scope::open(alloc, Owner::Either);
-    simply(counts, quiet(), At::Holding(inner), frames)
+    };
+    let mut frames = frames;
+    frames.push(Frame::Slots(Slots::Edit))?;
+    let inner = Scope::open(alloc, Owner::Either)?;
+    hold_method(heading, inner, quiet(), frames, counts)
 }
 
 // and of a list.
 fn hold_listed(
     alloc: Global,
     label: Label,
+    holder: Holder,
+    scope: Scope,
     frames: Stack<Frame>,
     counts: Counts,
 ) -> Result<Turn, Stop>
-    ensures { Turns result (simply counts quiet (at.Holding (scope either)) (f.Undecided label ∷ frames)) }
+    ensures { Turns result (equals_in label (slots.List holder scope) frames counts) }
 {
     let mut frames = frames;
-    frames.push(Frame::Undecided(label))?;
-    let inner = Scope::open(alloc, Owner::Either);
-    simply(counts, quiet(), At::Holding(inner), frames)
+    frames.push(Frame::Slots(Slots::List(holder, scope)))?;
+    let at = At::Contents(AtContents::Wanted, Scope::open(alloc, Owner::Either)?);
+    within(
+        counts,
+        quiet(),
+        at,
+        Frame::Slot(Contents::Undecided(label)),
+        frames,
+    )
 }
 
 fn hold(alloc: Global, label: Label, frames: Stack<Frame>, counts: Counts) -> Result<Turn, Stop>
     ensures { Turns result (equals_turn label frames counts) }
 {
-    let mut frames = frames;
-    let Some(inner) = frames.pop() else {
-        return Err(Stop::BadSyntax);
-    };
-    if let Frame::Edit = inner {
-        return hold_lone(alloc, label, frames, counts);
+    let (slots, frames) = pop_slots(frames)?;
+    match slots {
+        Slots::List(holder, scope) => {
+            return hold_listed(alloc, label, holder, scope, frames, counts);
+        }
+        Slots::Edit => return hold_lone(alloc, label, frames, counts),
     }
-    frames.push(inner)?;
-    hold_listed(alloc, label, frames, counts)
 }
 
 // The contents of an assignable slot are wanted.
@@ -351,51 +312,41 @@ fn want_datum(
     frames: Stack<Frame>,
     counts: Counts,
 ) -> Result<Turn, Stop>
-    ensures { Turns result (simply counts (event_in event) at.DataWanted (f.Assigned label ∷ frames)) }
+    ensures { Turns result (simply counts (event_in event) (at.Data data_at.Wanted) (f.Slot (contents.Assigned label) ∷ frames)) }
 {
-    let mut frames = frames;
-    frames.push(Frame::Assigned(label))?;
-    simply(counts, event, At::DataWanted, frames)
+    within(
+        counts,
+        event,
+        At::Data(AtData::Wanted),
+        Frame::Slot(Contents::Assigned(label)),
+        frames,
+    )
 }
 
 // '<-' behind a name.
 fn assign(label: Label, frames: Stack<Frame>, counts: Counts) -> Result<Turn, Stop>
     ensures { Turns result (arrow_turn label frames counts) }
 {
+    let (holder, scope, frames) = pop_list(frames)?;
+    let mut scope = scope;
+    let broken = setter_in(&mut scope, label)?;
     let mut frames = frames;
-    match frames.pop() {
-        Some(Frame::World(mut scope)) => {
-            let event = setter_in(&mut scope, label)?;
-            frames.push(Frame::World(scope))?;
-            return want_datum(label, event, frames, counts);
-        }
-        Some(Frame::Bars(paren, mut scope)) => {
-            let event = setter_in(&mut scope, label)?;
-            frames.push(Frame::Bars(paren, scope))?;
-            return want_datum(label, event, frames, counts);
-        }
-        Some(Frame::Object(paren, mut scope)) => {
-            let event = setter_in(&mut scope, label)?;
-            frames.push(Frame::Object(paren, scope))?;
-            return want_datum(label, event, frames, counts);
-        }
-        _ => return Err(Stop::BadSyntax),
-    }
+    frames.push(Frame::Slots(Slots::List(holder, scope)))?;
+    want_datum(label, Event { broken, ..quiet() }, frames, counts)
 }
 
 // '*' behind a name.
 fn star(label: Label, frames: Stack<Frame>, counts: Counts) -> Result<Turn, Stop>
     ensures { Turns result (star_turn label frames counts) }
 {
-    let mut frames = frames;
-    let Some(inner) = frames.pop() else {
-        return Err(Stop::BadSyntax);
-    };
-    if let Frame::Edit = inner {
-        return Err(Stop::BadSyntax);
-    }
-    frames.push(inner)?;
-    simply(counts, quiet(), At::Starred(label), frames)
+    let (holder, scope, frames) = pop_list(frames)?;
+    within(
+        counts,
+        quiet(),
+        At::Name(AtName::Starred(label)),
+        Frame::Slots(Slots::List(holder, scope)),
+        frames,
+    )
 }
 
 // An operator behind a name.
@@ -417,27 +368,6 @@ fn decide(
 }
 
 // A slot that holds nil ends before the sign: its list gets its assignment slot.
-fn bare_in(scope: &mut Scope, counts: &mut Counts, label: Label) -> Result<(), AllocError>
-    ensures list { OnOk result (scope.new ≡ with_setter label scope.old) }
-    ensures told { OnOk result (counts.new ≡ told (again scope.old (label.setter ∷ []) label.spot) counts.old) }
-{
-    let again = scope.add(Words::One(label.setter))?;
-    counts.tell(duplicate(again, label.spot))
-}
-
-// The item of a slot that holds nil.
-fn bare_item(label: Label) -> Item
-    ensures { result ≡ slot_item label (form.Bare label.setter) }
-{
-    Item::Slot {
-        words: Words::One(label.name),
-        form: SlotForm::Bare {
-            setter: label.setter,
-        },
-        spot: label.spot,
-    }
-}
-
 fn end_bare(
     alloc: Global,
     label: Label,
@@ -447,26 +377,16 @@ fn end_bare(
 ) -> Result<Turn, Stop>
     ensures { Turns result (bare_turn label frames counts symbol) }
 {
-    let mut frames = frames;
+    let (holder, scope, frames) = pop_list(frames)?;
+    let mut scope = scope;
     let mut counts = counts;
-    match frames.pop() {
-        Some(Frame::World(mut scope)) => {
-            bare_in(&mut scope, &mut counts, label)?;
-            frames.push(Frame::World(scope))?;
-            return end_slot(alloc, frames, counts, Some(bare_item(label)), symbol);
-        }
-        Some(Frame::Bars(paren, mut scope)) => {
-            bare_in(&mut scope, &mut counts, label)?;
-            frames.push(Frame::Bars(paren, scope))?;
-            return end_slot(alloc, frames, counts, Some(bare_item(label)), symbol);
-        }
-        Some(Frame::Object(paren, mut scope)) => {
-            bare_in(&mut scope, &mut counts, label)?;
-            frames.push(Frame::Object(paren, scope))?;
-            return end_slot(alloc, frames, counts, Some(bare_item(label)), symbol);
-        }
-        _ => return Err(Stop::BadSyntax),
-    }
+    counts.tell(setter_in(&mut scope, label)?)?;
+    let mut frames = frames;
+    frames.push(Frame::Slots(Slots::List(holder, scope)))?;
+    let form = SlotForm::Bare {
+        setter: label.setter,
+    };
+    end_slot(alloc, frames, counts, Some(slot_item(label, form)), symbol)
 }
 
 /// Reads a sign behind a name.
@@ -490,14 +410,18 @@ pub fn follow_name(
 
 // '=' behind a name and '*'.
 fn hold_parent(label: Label, frames: Stack<Frame>, counts: Counts, role: Role) -> Result<Turn, Stop>
-    ensures { Turns result (if_equals role (simply counts quiet at.DataWanted (f.Parental label ∷ frames))) }
+    ensures { Turns result (if_equals role (simply counts quiet (at.Data data_at.Wanted) (f.Slot (contents.Parental label) ∷ frames))) }
 {
     let Role::Equals = role else {
         return Err(Stop::BadSyntax);
     };
-    let mut frames = frames;
-    frames.push(Frame::Parental(label))?;
-    simply(counts, quiet(), At::DataWanted, frames)
+    within(
+        counts,
+        quiet(),
+        At::Data(AtData::Wanted),
+        Frame::Slot(Contents::Parental(label)),
+        frames,
+    )
 }
 
 /// Reads a sign behind a name and '*'.
@@ -523,11 +447,15 @@ fn hold_method(
     frames: Stack<Frame>,
     counts: Counts,
 ) -> Result<Turn, Stop>
-    ensures { Turns result (simply counts (event_in event) (at.Holding inner) (f.Coded heading ∷ frames)) }
+    ensures { Turns result (simply counts (event_in event) (at.Contents held.Wanted inner) (f.Slot (contents.Coded heading) ∷ frames)) }
 {
-    let mut frames = frames;
-    frames.push(Frame::Coded(heading))?;
-    simply(counts, event, At::Holding(inner), frames)
+    within(
+        counts,
+        event,
+        At::Contents(AtContents::Wanted, inner),
+        Frame::Slot(Contents::Coded(heading)),
+        frames,
+    )
 }
 
 // The name of a method slot that is an operator, which begins there.
@@ -550,7 +478,7 @@ fn hold_operator(
     counts: Counts,
     role: Role,
 ) -> Result<Turn, Stop>
-    ensures { Turns result (if_equals role (simply counts quiet (at.Holding inner) (f.Coded (operator_heading operator begin) ∷ frames))) }
+    ensures { Turns result (if_equals role (simply counts quiet (at.Contents held.Wanted inner) (f.Slot (contents.Coded (operator_heading operator begin)) ∷ frames))) }
 {
     let Role::Equals = role else {
         return Err(Stop::BadSyntax);
@@ -571,19 +499,18 @@ fn name_operand(
     reserved: Reserved,
     spot: Spot,
 ) -> Result<Turn, Stop>
-    ensures { Turns result (if_free reserved (simply counts (argument_event limits inner (items.Named name) name spot) (at.OperatorArgued operator begin (with_argument (name ∷ []) inner)) frames)) }
+    ensures { Turns result (if_free reserved (simply counts (argument_event limits inner (items.Named name) name spot) (at.Argued (argued.Operator operator begin) (with_argument (name ∷ []) inner)) frames)) }
 {
     let Reserved::Free = reserved else {
         return Err(Stop::BadSyntax);
     };
     let mut inner = inner;
     let event = argument_in(limits, &mut inner, Item::Named(name), name, spot)?;
-    let at = At::OperatorArgued {
+    let at = AtArgument::Operator {
         operator,
         spot: begin,
-        inner,
     };
-    simply(counts, event, at, frames)
+    simply(counts, event, At::Argued(at, inner), frames)
 }
 
 /// Reads a sign behind an operator at the begin of a slot.
@@ -601,13 +528,13 @@ pub fn follow_operator(
 {
     match symbol {
         Symbol::Name { name, reserved, .. } => {
-            let inner = Scope::open(alloc, Owner::Activation);
+            let inner = Scope::open(alloc, Owner::Activation)?;
             return name_operand(
                 limits, operator, begin, inner, frames, counts, name, reserved, spot,
             );
         }
         Symbol::Operator { role, .. } => {
-            let inner = Scope::open(alloc, Owner::Activation);
+            let inner = Scope::open(alloc, Owner::Activation)?;
             return hold_operator(operator, begin, inner, frames, counts, role);
         }
         _ => return Err(Stop::BadSyntax),
@@ -643,56 +570,21 @@ fn longer(heading: Heading, name: u32) -> Heading
     }
 }
 
-// '=' behind keywords: in a world,
-fn hold_in_world(
+// '=' behind keywords: in a list,
+fn hold_in_list(
     heading: Heading,
     inner: Scope,
+    holder: Holder,
     scope: Scope,
     frames: Stack<Frame>,
     counts: Counts,
 ) -> Result<Turn, Stop>
-    ensures { Turns result (coded_turn heading inner (f.World scope ∷ frames) counts) }
+    ensures { Turns result (coded_in heading inner (slots.List holder scope) frames counts) }
 {
     let mut scope = scope;
     let mut frames = frames;
     let event = words_in(&mut scope, heading)?;
-    frames.push(Frame::World(scope))?;
-    hold_method(heading, inner, event, frames, counts)
-}
-
-// between bars,
-fn hold_in_bars(
-    heading: Heading,
-    inner: Scope,
-    paren: Spot,
-    scope: Scope,
-    frames: Stack<Frame>,
-    counts: Counts,
-) -> Result<Turn, Stop>
-    ensures { Turns result (coded_turn heading inner (f.Bars paren scope ∷ frames) counts) }
-{
-    let mut scope = scope;
-    let mut frames = frames;
-    let event = words_in(&mut scope, heading)?;
-    frames.push(Frame::Bars(paren, scope))?;
-    hold_method(heading, inner, event, frames, counts)
-}
-
-// between those of an object,
-fn hold_in_object(
-    heading: Heading,
-    inner: Scope,
-    paren: Spot,
-    scope: Scope,
-    frames: Stack<Frame>,
-    counts: Counts,
-) -> Result<Turn, Stop>
-    ensures { Turns result (coded_turn heading inner (f.Object paren scope ∷ frames) counts) }
-{
-    let mut scope = scope;
-    let mut frames = frames;
-    let event = words_in(&mut scope, heading)?;
-    frames.push(Frame::Object(paren, scope))?;
+    frames.push(Frame::Slots(Slots::List(holder, scope)))?;
     hold_method(heading, inner, event, frames, counts)
 }
 
@@ -703,10 +595,10 @@ fn hold_in_edit(
     frames: Stack<Frame>,
     counts: Counts,
 ) -> Result<Turn, Stop>
-    ensures { Turns result (coded_turn heading inner (f.Edit ∷ frames) counts) }
+    ensures { Turns result (coded_in heading inner slots.Edit frames counts) }
 {
     let mut frames = frames;
-    frames.push(Frame::Edit)?;
+    frames.push(Frame::Slots(Slots::Edit))?;
     hold_method(heading, inner, quiet(), frames, counts)
 }
 
@@ -718,20 +610,12 @@ fn hold_coded(
 ) -> Result<Turn, Stop>
     ensures { Turns result (coded_turn heading inner frames counts) }
 {
-    let mut frames = frames;
-    let Some(list) = frames.pop() else {
-        return Err(Stop::BadSyntax);
-    };
-    match list {
-        Frame::World(scope) => return hold_in_world(heading, inner, scope, frames, counts),
-        Frame::Bars(paren, scope) => {
-            return hold_in_bars(heading, inner, paren, scope, frames, counts);
+    let (slots, frames) = pop_slots(frames)?;
+    match slots {
+        Slots::List(holder, scope) => {
+            return hold_in_list(heading, inner, holder, scope, frames, counts);
         }
-        Frame::Object(paren, scope) => {
-            return hold_in_object(heading, inner, paren, scope, frames, counts);
-        }
-        Frame::Edit => return hold_in_edit(heading, inner, frames, counts),
-        _ => return Err(Stop::BadSyntax),
+        Slots::Edit => return hold_in_edit(heading, inner, frames, counts),
     }
 }
 
@@ -765,7 +649,12 @@ fn name_argument(
 {
     let mut inner = inner;
     let event = argument_in(limits, &mut inner, Item::Named(name), name, spot)?;
-    simply(counts, event, At::KeywordArgued(heading, inner), frames)
+    simply(
+        counts,
+        event,
+        At::Argued(AtArgument::Keyword(heading), inner),
+        frames,
+    )
 }
 
 // behind the first one, where no other stands between,
@@ -783,7 +672,7 @@ fn name_first(
     let Words::One(_) = heading.words else {
         return Err(Stop::BadSyntax);
     };
-    let inner = Scope::open(alloc, Owner::Activation);
+    let inner = Scope::open(alloc, Owner::Activation)?;
     name_argument(limits, heading, inner, frames, counts, name, spot)
 }
 
@@ -845,12 +734,12 @@ pub fn follow_keywords(
             return simply(
                 counts,
                 event,
-                At::KeywordNamed(longer(heading, name)),
+                At::Name(AtName::Keyword(longer(heading, name))),
                 frames,
             );
         }
         Symbol::Operator { role, .. } => {
-            let inner = Scope::open(alloc, Owner::Activation);
+            let inner = Scope::open(alloc, Owner::Activation)?;
             return hold_keywords(heading, inner, frames, counts, role);
         }
         _ => return Err(Stop::BadSyntax),
@@ -871,8 +760,8 @@ pub fn follow_keyword_argument(
     match symbol {
         Symbol::CapitalKeyword { name, .. } => {
             let event = part_event(limits, heading.wanted);
-            let at = At::KeywordWanting(longer(heading, name), inner);
-            return simply(counts, event, at, frames);
+            let at = AtArgument::Wanting(longer(heading, name));
+            return simply(counts, event, At::Argued(at, inner), frames);
         }
         Symbol::Operator { role, .. } => {
             return hold_keywords(heading, inner, frames, counts, role);

@@ -3,8 +3,7 @@ use Rattle.std.proofs.Common.{◌≡◌, ap, subst, ◌∙◌, Vec, Global}
 use Rattle.self_grammar.specs.declared.pieces.Item.{Item}
 use Rattle.self_grammar.specs.Grammar.{World}
 use Rattle.self_grammar.specs.Spelling.{world, items_of}
-use Rattle.self_reader.specs.Reading.{all_said, Answers, before_list, before_world}
-use Rattle.reader_states.specs.declared.frames.Frame.TheVariants as f
+use Rattle.self_reader.specs.Reading.{all_said, Answers, before_world}
 use Rattle.self_reader.proofs.Answered.{world_found, world_only, world_stops, is_found, is_only, is_refused}
 use Rattle.self_reader.proofs.reading.read_world_signs.Goals as goal
 use Rattle.self_reader.proofs.reading.read_world_signs.Goals.{After-read_signs}
@@ -13,7 +12,7 @@ abbrev view : Vec Item Global → List Item
 view v = v.items
 
 answer : (c : After-read_signs) → Answers view c.read_signs.result (all_said c.args.limits before_world c.args.signs.now)
-answer c = subst (λ r. Answers view c.read_signs.result (all_said c.args.limits r c.args.signs.now)) (c.in-Ok.ensures ∙ ap (λ t. before_list (f.World t) 1) c.open.ensures) c.read_signs.ensures
+answer c = subst (λ r. Answers view c.read_signs.result (all_said c.args.limits r c.args.signs.now)) c.in-Ok.ensures c.read_signs.ensures
 
 pub returns-clause-found : goal.returns-clause-found
 returns-clause-found c = is_found view World (world c.args.limits) c.args.signs.now c.read_signs.result (all_said c.args.limits before_world c.args.signs.now) (answer c) (world_found c.args.limits c.args.signs.now c.requires)

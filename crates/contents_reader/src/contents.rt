@@ -1,57 +1,37 @@
 // Reads a sign where the contents of a slot are wanted, and behind the parentheses and bars with which they begin.
-ghost use Rattle.std.specs.Prelude.{◌≡◌, Some, not};
-ghost use Rattle.self_grammar.specs.Counts.{when, here};
+ghost use Rattle.std.specs.Prelude.{◌≡◌, ◌∷◌, Some, not};
+ghost use Rattle.self_grammar.specs.Counts.{when, here, quiet};
+ghost use Rattle.self_grammar.specs.Scopes.{scope, holder};
 ghost use Rattle.self_grammar.specs.declared.signs.ReadKind.TheVariants as kind;
-ghost use Rattle.reader_states.specs.Turns.{event_in, listed, Turns, Gives, slot_item, told};
+ghost use Rattle.reader_states.specs.Turns.{event_in, listed, Turns, Gives, told, simply};
+ghost use Rattle.reader_states.specs.declared.frames.At.TheVariants as at;
+ghost use Rattle.reader_states.specs.declared.frames.AtName.TheVariants as name;
+ghost use Rattle.reader_states.specs.declared.frames.Frame.TheVariants as f;
+ghost use Rattle.reader_states.specs.declared.frames.Holder.TheVariants as list_of;
+ghost use Rattle.reader_states.specs.declared.frames.Slots.TheVariants as slots;
 ghost use Rattle.slot_reader.specs.SlotTurns.{misfits};
-ghost use Rattle.self_reader.specs.ContentTurns.{marked, marked_at, simple_constant, simple_datum, object_constant, object_datum, opening_item, opened_event, paren_turn, holding_turn, data_wanted_turn, empty_end, is_bar, is_close, bare_opened, opened_turn, data_opened_turn, object_end, at_code, code_begun, code_turn, shut_turn, data_shut_turn};
+ghost use Rattle.contents_reader.specs.ContentTurns.{marked, marked_at, simple_constant, simple_datum, object_constant, object_datum, opening_item, opened_event, paren_turn, holding_turn, data_wanted_turn, empty_end, is_bar, is_close, bare_opened, opened_turn, data_opened_turn, object_end, at_code, code_begun, code_turn, shut_turn, data_shut_turn};
 
 use code_reader::begin;
 use reader_states::{
-    At, Counts, Event, Frame, Label, Owner, Scope, Stack, Stop, Turn, closing, opening, quiet,
-    saying, simply,
+    At, AtContents, AtData, AtEnd, AtName, Body, Contents, Counts, Event, Expression, Frame,
+    Holder, Owner, Scope, Slots, Stack, Stop, Turn, closing, opening, pop_list, pop_slot, quiet,
+    saying, simply, slot_item, within,
 };
-use self_grammar::{Breach, Item, ReadKind, SlotForm, Spot, Symbol, Words};
+use self_grammar::{Breach, Item, ReadKind, SlotForm, Spot, Symbol};
 use slot_reader::misfits;
 use std::alloc::Global;
-
-// The item of a slot that ends.
-fn slot_item(label: Label, form: SlotForm) -> Item
-    ensures { result ≡ slot_item label form }
-{
-    Item::Slot {
-        words: Words::One(label.name),
-        form,
-        spot: label.spot,
-    }
-}
 
 // The list that is open innermost gets a slot that no method has,
 fn mark_list(frames: Stack<Frame>) -> Result<Stack<Frame>, Stop>
     ensures { Gives result (marked frames) }
 {
+    let (holder, scope, frames) = pop_list(frames)?;
+    let mut scope = scope;
+    scope.mark_object();
     let mut frames = frames;
-    let Some(inner) = frames.pop() else {
-        return Err(Stop::BadSyntax);
-    };
-    match inner {
-        Frame::World(mut scope) => {
-            scope.mark_object();
-            frames.push(Frame::World(scope))?;
-            return Ok(frames);
-        }
-        Frame::Bars(paren, mut scope) => {
-            scope.mark_object();
-            frames.push(Frame::Bars(paren, scope))?;
-            return Ok(frames);
-        }
-        Frame::Object(paren, mut scope) => {
-            scope.mark_object();
-            frames.push(Frame::Object(paren, scope))?;
-            return Ok(frames);
-        }
-        _ => return Err(Stop::BadSyntax),
-    }
+    frames.push(Frame::Slots(Slots::List(holder, scope)))?;
+    Ok(frames)
 }
 
 // with contents that end here.
@@ -66,15 +46,15 @@ fn mark(frames: Stack<Frame>, counts: Counts, event: Event, at: At) -> Result<Tu
 fn hold(frames: Stack<Frame>, counts: Counts, item: Item, path: bool) -> Result<Turn, Stop>
     ensures { Turns result (simple_constant item path frames counts) }
 {
-    let mut frames = frames;
-    let Some(Frame::Undecided(label)) = frames.pop() else {
+    let (contents, frames) = pop_slot(frames)?;
+    let Contents::Undecided(label) = contents else {
         return Err(Stop::BadSyntax);
     };
     let item_at_end = slot_item(label, SlotForm::Constant);
-    let at = At::MemberDone {
+    let at = At::Behind(AtEnd::Member {
         item: item_at_end,
         path,
-    };
+    });
     simply(counts, saying(item), at, frames)
 }
 
@@ -82,26 +62,23 @@ fn hold(frames: Stack<Frame>, counts: Counts, item: Item, path: bool) -> Result<
 fn hold_data(frames: Stack<Frame>, counts: Counts, item: Item, path: bool) -> Result<Turn, Stop>
     ensures { Turns result (simple_datum item path frames counts) }
 {
-    let mut frames = frames;
-    let Some(around) = frames.pop() else {
-        return Err(Stop::BadSyntax);
-    };
-    match around {
-        Frame::Assigned(label) => {
+    let (contents, frames) = pop_slot(frames)?;
+    match contents {
+        Contents::Assigned(label) => {
             let form = SlotForm::Assignable {
                 setter: label.setter,
             };
-            let at = At::MemberDone {
+            let at = At::Behind(AtEnd::Member {
                 item: slot_item(label, form),
                 path,
-            };
+            });
             return simply(counts, saying(item), at, frames);
         }
-        Frame::Parental(label) => {
-            let at = At::MemberDone {
+        Contents::Parental(label) => {
+            let at = At::Behind(AtEnd::Member {
                 item: slot_item(label, SlotForm::Parent),
                 path,
-            };
+            });
             return mark(frames, counts, saying(item), at);
         }
         _ => return Err(Stop::BadSyntax),
@@ -112,14 +89,14 @@ fn hold_data(frames: Stack<Frame>, counts: Counts, item: Item, path: bool) -> Re
 fn hold_object(frames: Stack<Frame>, counts: Counts, event: Event) -> Result<Turn, Stop>
     ensures { Turns result (object_constant (event_in event) frames counts) }
 {
-    let mut frames = frames;
-    let Some(Frame::Undecided(label)) = frames.pop() else {
+    let (contents, frames) = pop_slot(frames)?;
+    let Contents::Undecided(label) = contents else {
         return Err(Stop::BadSyntax);
     };
-    let at = At::MemberDone {
+    let at = At::Behind(AtEnd::Member {
         item: slot_item(label, SlotForm::Constant),
         path: false,
-    };
+    });
     mark(frames, counts, event, at)
 }
 
@@ -127,26 +104,23 @@ fn hold_object(frames: Stack<Frame>, counts: Counts, event: Event) -> Result<Tur
 fn hold_data_object(frames: Stack<Frame>, counts: Counts, event: Event) -> Result<Turn, Stop>
     ensures { Turns result (object_datum (event_in event) frames counts) }
 {
-    let mut frames = frames;
-    let Some(around) = frames.pop() else {
-        return Err(Stop::BadSyntax);
-    };
-    match around {
-        Frame::Assigned(label) => {
+    let (contents, frames) = pop_slot(frames)?;
+    match contents {
+        Contents::Assigned(label) => {
             let form = SlotForm::Assignable {
                 setter: label.setter,
             };
-            let at = At::MemberDone {
+            let at = At::Behind(AtEnd::Member {
                 item: slot_item(label, form),
                 path: false,
-            };
+            });
             return mark(frames, counts, event, at);
         }
-        Frame::Parental(label) => {
-            let at = At::MemberDone {
+        Contents::Parental(label) => {
+            let at = At::Behind(AtEnd::Member {
                 item: slot_item(label, SlotForm::Parent),
                 path: false,
-            };
+            });
             return mark(frames, counts, event, at);
         }
         _ => return Err(Stop::BadSyntax),
@@ -182,27 +156,34 @@ fn opened_event(spot: Spot, inner: &Scope, wanted: usize, fault: Spot) -> Event
 fn open_paren(frames: Stack<Frame>, counts: Counts, inner: Scope, spot: Spot) -> Result<Turn, Stop>
     ensures { Turns result (paren_turn spot inner frames counts) }
 {
-    let mut frames = frames;
-    let Some(around) = frames.pop() else {
-        return Err(Stop::BadSyntax);
-    };
-    match around {
-        Frame::Undecided(label) => {
+    let (contents, frames) = pop_slot(frames)?;
+    match contents {
+        Contents::Undecided(label) => {
             let event = opened_event(spot, &inner, 0, label.spot);
-            frames.push(Frame::Undecided(label))?;
-            return simply(counts, event, At::Opened(spot, inner), frames);
+            return within(
+                counts,
+                event,
+                At::Contents(AtContents::Opened(spot), inner),
+                Frame::Slot(contents),
+                frames,
+            );
         }
-        Frame::Coded(heading) => {
+        Contents::Coded(heading) => {
             let event = opened_event(spot, &inner, heading.wanted, heading.spot);
-            frames.push(Frame::Coded(heading))?;
-            return simply(counts, event, At::Opened(spot, inner), frames);
+            return within(
+                counts,
+                event,
+                At::Contents(AtContents::Opened(spot), inner),
+                Frame::Slot(contents),
+                frames,
+            );
         }
         _ => return Err(Stop::BadSyntax),
     }
 }
 
 // Where the contents of a slot are wanted that may be a method.
-pub(crate) fn take_contents(
+pub fn take_contents(
     inner: Scope,
     frames: Stack<Frame>,
     counts: Counts,
@@ -225,7 +206,7 @@ pub(crate) fn take_contents(
 }
 
 // Where contents are wanted that are no method.
-pub(crate) fn take_data(
+pub fn take_data(
     frames: Stack<Frame>,
     counts: Counts,
     symbol: Symbol,
@@ -244,7 +225,12 @@ pub(crate) fn take_data(
             return hold_data(frames, counts, Item::Root { name, spot }, true);
         }
         Symbol::OpenParen => {
-            return simply(counts, opening_item(spot), At::DataOpened(spot), frames);
+            return simply(
+                counts,
+                opening_item(spot),
+                At::Data(AtData::Opened(spot)),
+                frames,
+            );
         }
         _ => return Err(Stop::BadSyntax),
     }
@@ -272,8 +258,8 @@ fn begin_code(
     ensures { Turns result (code_begun frames counts symbol spot) }
 {
     let mut frames = frames;
-    frames.push(Frame::Code)?;
-    frames.push(Frame::Statement { later: false })?;
+    frames.push(Frame::Body(Body::Method))?;
+    frames.push(Frame::Expression(Expression::Statement { later: false }))?;
     begin(alloc, frames, counts, symbol, spot)
 }
 
@@ -315,7 +301,7 @@ fn take_bare(
 }
 
 // Behind the parenthesis of what may be a method.
-pub(crate) fn take_opened(
+pub fn take_opened(
     alloc: Global,
     paren: Spot,
     inner: Scope,
@@ -327,15 +313,38 @@ pub(crate) fn take_opened(
     ensures { Turns result (opened_turn paren inner frames counts symbol spot) }
 {
     if is_bar(symbol) {
-        let mut frames = frames;
-        frames.push(Frame::Bars(paren, inner))?;
-        return simply(counts, quiet(), At::Slot, frames);
+        return within(
+            counts,
+            quiet(),
+            At::Name(AtName::Slot),
+            Frame::Slots(Slots::List(Holder::Bars(paren), inner)),
+            frames,
+        );
     }
     take_bare(alloc, paren, frames, counts, symbol, spot)
 }
 
+// The bar behind the parenthesis of an object.
+fn open_object(
+    alloc: Global,
+    paren: Spot,
+    frames: Stack<Frame>,
+    counts: Counts,
+) -> Result<Turn, Stop>
+    ensures { Turns result (simply counts quiet (at.Name name.Slot) (f.Slots (slots.List (list_of.Object paren) (scope holder)) ∷ frames)) }
+{
+    let scope = Scope::open(alloc, Owner::Holder)?;
+    within(
+        counts,
+        quiet(),
+        At::Name(AtName::Slot),
+        Frame::Slots(Slots::List(Holder::Object(paren), scope)),
+        frames,
+    )
+}
+
 // Behind the parenthesis of an object.
-pub(crate) fn take_data_opened(
+pub fn take_data_opened(
     alloc: Global,
     paren: Spot,
     frames: Stack<Frame>,
@@ -345,11 +354,7 @@ pub(crate) fn take_data_opened(
     ensures { (spot : Spot) → Turns result (data_opened_turn paren frames counts symbol spot) }
 {
     match symbol {
-        Symbol::Bar => {
-            let mut frames = frames;
-            frames.push(Frame::Object(paren, Scope::open(alloc, Owner::Holder)))?;
-            return simply(counts, quiet(), At::Slot, frames);
-        }
+        Symbol::Bar => return open_object(alloc, paren, frames, counts),
         Symbol::CloseParen => return hold_data_object(frames, counts, empty_end(paren)),
         _ => return Err(Stop::BadSyntax),
     }
@@ -410,21 +415,19 @@ fn take_code(
 ) -> Result<Turn, Stop>
     ensures { Turns result (code_turn scope frames counts symbol spot) }
 {
+    let (contents, frames) = pop_slot(frames)?;
     let mut frames = frames;
     let mut counts = counts;
     counts.enter()?;
-    let Some(around) = frames.pop() else {
-        return Err(Stop::BadSyntax);
-    };
-    match around {
-        Frame::Undecided(label) => {
+    match contents {
+        Contents::Undecided(label) => {
             let counts = tell_at_code(counts, 0, label.spot, &scope)?;
-            frames.push(Frame::Undecided(label))?;
+            frames.push(Frame::Slot(contents))?;
             return begin_code(alloc, frames, counts, symbol, spot);
         }
-        Frame::Coded(heading) => {
+        Contents::Coded(heading) => {
             let counts = tell_at_code(counts, heading.wanted, heading.spot, &scope)?;
-            frames.push(Frame::Coded(heading))?;
+            frames.push(Frame::Slot(contents))?;
             return begin_code(alloc, frames, counts, symbol, spot);
         }
         _ => return Err(Stop::BadSyntax),
@@ -432,7 +435,7 @@ fn take_code(
 }
 
 // Behind the bars of what may be a method.
-pub(crate) fn take_shut(
+pub fn take_shut(
     alloc: Global,
     paren: Spot,
     scope: Scope,
@@ -450,7 +453,7 @@ pub(crate) fn take_shut(
 }
 
 // Behind the bars of an object.
-pub(crate) fn take_data_shut(
+pub fn take_data_shut(
     paren: Spot,
     scope: Scope,
     frames: Stack<Frame>,

@@ -1,0 +1,2 @@
+pub mod ContentTurns
+pub mod LocalTurns
