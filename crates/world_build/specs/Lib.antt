@@ -9,3 +9,5 @@ pub mod Steps
 pub mod Telling
 pub mod Worlds
 pub mod Kinds
+pub mod SlotTexts
+pub mod SlotTextRow

@@ -26,7 +26,9 @@ pub fn maps_of(alloc: Global, world: &World, references: &[Word]) -> Result<Maps
     maps.add(kin(alloc, world, references, world.core().vectors)?)?;
     for thing in world.things() {
         match thing {
-            Thing::Plain(slots) => maps.add(map_of(alloc, world, references, slots)?)?,
+            Thing::Plain(slots) => {
+                maps.add(map_of(alloc, world, references, slots)?)?;
+            }
             Thing::Vector(_) => {}
             Thing::Text(_) => {}
         }
