@@ -160,8 +160,8 @@ module _ (s : State) (a : Activation) (body : path.Body) (begins : Begins s a bo
       tests : (one add sub : Bool) → nat_eq args 1 ≡ one → nat_eq name.0 INT_ADD.0 ≡ add → nat_eq name.0 INT_SUB.0 ≡ sub
           → (is_built node two ≡ built_by one add sub) × (path.effect node two ≡ effect_by one add sub)
       tests one add sub p q r = (
-          ap (λ b. built_by b (nat_eq name.0 INT_ADD.0) (nat_eq name.0 INT_SUB.0)) p ∙ ap (λ b. built_by one b (nat_eq name.0 INT_SUB.0)) q ∙ ap (built_by one add) r,
-          ap (λ b. effect_by b (nat_eq name.0 INT_ADD.0) (nat_eq name.0 INT_SUB.0)) p ∙ ap (λ b. effect_by one b (nat_eq name.0 INT_SUB.0)) q ∙ ap (effect_by one add) r,
+        ap (λ b. built_by b (nat_eq name.0 INT_ADD.0) (nat_eq name.0 INT_SUB.0)) p ∙ ap (λ b. built_by one b (nat_eq name.0 INT_SUB.0)) q ∙ ap (built_by one add) r,
+        ap (λ b. effect_by b (nat_eq name.0 INT_ADD.0) (nat_eq name.0 INT_SUB.0)) p ∙ ap (λ b. effect_by one b (nat_eq name.0 INT_SUB.0)) q ∙ ap (effect_by one add) r,
       )
 
       by_tests : (one add sub : Bool) → nat_eq args 1 ≡ one → nat_eq name.0 INT_ADD.0 ≡ add → nat_eq name.0 INT_SUB.0 ≡ sub → gate k two c node ≡ result k two c (path.effect node two)

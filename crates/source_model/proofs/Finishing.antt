@@ -1,15 +1,13 @@
 -- A run that goes on until an activation is gone is told by counting.
-use Rattle.std.proofs.Common.{◌≡◌, ℕ, zero, suc, ◌+◌, ◌<◌, ◌≤◌, ap, sym, subst, refl, ◌∙◌, arith, Bool, true, false, List, [], ◌∷◌, ◌++◌, ◌⊎◌, inl, inr, length, map, ltb-false, ltb-true}
-use Rattle.std.specs.Prelude.{◌==◌, nat_lt, not, is_some, slice_get, slice_set, Option, Some, None, cond, Ok, Err}
-use Rattle.std.proofs.lemmas.Bool.{cases_Bool, cases_lt, eqb-true}
-use Rattle.self_terms.specs.declared.errors.ErrorName.{ErrorName}
-use Rattle.self_terms.specs.declared.nodes.Place.{Place}
+use Rattle.std.proofs.Common.{◌≡◌, ℕ, zero, suc, ◌+◌, ◌≤◌, ap, sym, subst, refl, ◌∙◌, arith, Bool, true, false, List, [], ◌∷◌, ◌++◌, ◌⊎◌, inl, inr, length}
+use Rattle.std.specs.Prelude.{◌==◌, nat_lt, not, is_some, slice_get, slice_set, Option, Some, None, Ok, Err}
+use Rattle.std.proofs.lemmas.Bool.{cases_Bool, eqb-true}
 use Rattle.source_model.specs.Lookup.{Among}
-use Rattle.source_model.specs.State.{Activation, Activity, Running, Answered, Failed, State, Reached, with_current, silent}
+use Rattle.source_model.specs.State.{Activation, Activity, Running, Answered, Failed, State, Reached}
 use Rattle.source_model.specs.Messages.{body_of}
 use Rattle.source_model.specs.Sends.{Outcome, Here, with_number}
 use Rattle.source_model.specs.Step.{node_at, done, settled, advanced, step, onward, place_of}
-use Rattle.source_model.specs.Script.{lacks, lacks_in, until, finish}
+use Rattle.source_model.specs.Script.{lacks, lacks_in, until}
 use Rattle.source_model.specs.Finish.{live_in, fewer, FinishCounts}
 use Rattle.source_model.proofs.Shapes.{numbers, numbers_in, Shape, Shaped, done_shape}
 use Rattle.source_model.proofs.Runs.{stops_now, goes_on}
@@ -113,16 +111,16 @@ module _ (k : ℕ) (rest : List ℕ) (alone : ¬ Among k rest) where
 
   over_both : (x : Activity) → Over k rest (numbers_in x) → Both (Some x) false
   over_both (Running all) o = (
-      not_true _ (over_found k rest o.front all o.is),
-      grind (arith, length_over o.front k rest, ap length o.is, length_numbers all),
+    not_true _ (over_found k rest o.front all o.is),
+    grind (arith, length_over o.front k rest, ap length o.is, length_numbers all),
   )
   over_both (Answered v) o = absurd (no_over k rest o.front o.is)
   over_both (Failed c p) o = absurd (no_over k rest o.front o.is)
 
   within_both : (x : Activity) → Within rest (numbers_in x) → Both (Some x) true
   within_both (Running all) w = (
-      not_false _ (not_found k all (λ a. alone (subst (λ xs. Among k xs) (sym w.is) (among_behind k w.gone (numbers all) a)))),
-      grind (arith, length_behind w.gone (numbers all), ap length w.is, length_numbers all),
+    not_false _ (not_found k all (λ a. alone (subst (λ xs. Among k xs) (sym w.is) (among_behind k w.gone (numbers all) a)))),
+    grind (arith, length_behind w.gone (numbers all), ap length w.is, length_numbers all),
   )
   within_both (Answered v) w = (refl, grind arith)
   within_both (Failed c p) w = (refl, grind arith)

@@ -1,5 +1,5 @@
 -- How a run is told to be done that goes on until an activation is gone: by counting.
-use Rattle.std.specs.Prelude.{◌≡◌, ℕ, ◌+◌, nat_lt, Bool, List, [], ◌∷◌, length, map, slice_get, Option, Some}
+use Rattle.std.specs.Prelude.{◌≡◌, ℕ, ◌+◌, nat_lt, Bool, List, ◌∷◌, length, map, slice_get, Option, Some}
 use Rattle.source_model.specs.Lookup.{Among}
 use Rattle.source_model.specs.State.{Activation, Activity, Running, State, Reached}
 use Rattle.source_model.specs.Script.{until, finish}

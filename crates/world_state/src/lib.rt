@@ -1,5 +1,6 @@
 // The state with which a session over a world begins (`specs/Begun.antt`), and laws about it.
 #![tactic(auto)]
+
 ghost use Rattle.std.specs.Prelude.{◌≡◌, ℕ, List, [], Some};
 ghost use Rattle.self_terms.specs.declared.values.BodyId.{BodyId};
 ghost use Rattle.self_terms.specs.declared.values.Value.TheVariants as values;
