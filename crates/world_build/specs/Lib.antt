@@ -10,3 +10,5 @@ pub mod Telling
 pub mod Worlds
 pub mod Kinds
 pub mod Wholeness
+pub mod SlotTexts
+pub mod SlotTextRow
