@@ -27,6 +27,7 @@ mod worlds;
 
 pub use cores::CoreName;
 pub use refusals::BuildRefusal;
+pub use slot_texts::worked_slot;
 pub use wholeness::worlds_are_whole;
 pub use slot_texts::worked_slot;
 pub use worlds::{World, load};
