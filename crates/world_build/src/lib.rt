@@ -29,5 +29,4 @@ pub use cores::CoreName;
 pub use refusals::BuildRefusal;
 pub use slot_texts::worked_slot;
 pub use wholeness::worlds_are_whole;
-pub use slot_texts::worked_slot;
 pub use worlds::{World, load};
