@@ -7,4 +7,4 @@
 
 mod laws;
 
-pub use laws::{frames_rest_on_their_words};
+pub use laws::frames_rest_on_their_words;

@@ -52,14 +52,14 @@ words_next (x ∷ xs) zero node r owns locals at k e =
     let words = length (poll ++ node_code r owns locals at x k) in
     let z : words_before r owns locals (at + words) (grown x k) xs 0 ≡ 0 = none_before xs r owns locals (at + words) (grown x k) in
     let g : length (poll ++ node_code r owns locals at x k) ≡ length (poll ++ node_code r owns locals (at + 0) node k) =
-        ap (λ y. length (poll ++ node_code r owns locals at y k)) same ∙ ap (λ a. length (poll ++ node_code r owns locals a node k)) (omega arith) in
+    ap (λ y. length (poll ++ node_code r owns locals at y k)) same ∙ ap (λ a. length (poll ++ node_code r owns locals a node k)) (omega arith) in
     omega (arith, z, g)
 words_next (x ∷ xs) (suc n) node r owns locals at k e =
     let words = length (poll ++ node_code r owns locals at x k) in
     let g = words_next xs n node r owns locals (at + words) (grown x k) e in
     let before = words_before r owns locals (at + words) (grown x k) xs n in
     let f : length (poll ++ node_code r owns locals (at + words + before) node (depth_from (grown x k) xs n)) ≡ length (poll ++ node_code r owns locals (at + (words + before)) node (depth_from (grown x k) xs n)) =
-        ap (λ a. length (poll ++ node_code r owns locals a node (depth_from (grown x k) xs n))) (omega arith) in
+    ap (λ a. length (poll ++ node_code r owns locals a node (depth_from (grown x k) xs n))) (omega arith) in
     omega (arith, g, f)
 
 -- all of them are among the words of the list

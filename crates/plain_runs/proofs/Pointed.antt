@@ -95,7 +95,7 @@ pub next_offset : (r : References) (b : Body) (n : ℕ) (node : Node) → slice_
 next_offset r b n node e =
     let w = words_next b.nodes n node r (owns_context b) (frame_locals b) 0 0 e in
     let z : length (poll ++ node_code r (owns_context b) (frame_locals b) (0 + words_before r (owns_context b) (frame_locals b) 0 0 b.nodes n) node (depth_from 0 b.nodes n)) ≡ length (poll ++ node_code r (owns_context b) (frame_locals b) (words_before r (owns_context b) (frame_locals b) 0 0 b.nodes n) node (depth_from 0 b.nodes n)) =
-        ap (λ a. length (poll ++ node_code r (owns_context b) (frame_locals b) a node (depth_from 0 b.nodes n))) (omega arith) in
+    ap (λ a. length (poll ++ node_code r (owns_context b) (frame_locals b) a node (depth_from 0 b.nodes n))) (omega arith) in
     omega (arith, w, z)
 
 -- a word of a node says what the node's points do

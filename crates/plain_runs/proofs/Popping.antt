@@ -54,8 +54,8 @@ hosted_same h to e zero_is windows x = record {
   stub = stub_kept (Trap 9 ∷ []) h to ending_stub (λ a low. ap (λ m. word_at m a) e) (omega arith) x.stub;
   activities = x.activities;
   others = λ k sp pc n is ne.
-    let q = laid_as (IsHeld h) (IsHeld (with_machine h to)) (entry_frame k) ending_stub h.machine.memory n sp (saved_at h.machine.memory sp) pc [] (λ u s f y. held_kept h to u s f (λ a low. ap (λ m. word_at m a) e) y) (x.others k sp pc n is ne) in
-    (let P : Words → Type 0 = λ m. AreLaid (IsHeld (with_machine h to)) (entry_frame k) ending_stub m n sp (saved_at m sp) pc [] in subst P (sym e) q);
+      let q = laid_as (IsHeld h) (IsHeld (with_machine h to)) (entry_frame k) ending_stub h.machine.memory n sp (saved_at h.machine.memory sp) pc [] (λ u s f y. held_kept h to u s f (λ a low. ap (λ m. word_at m a) e) y) (x.others k sp pc n is ne) in
+      (let P : Words → Type 0 = λ m. AreLaid (IsHeld (with_machine h to)) (entry_frame k) ending_stub m n sp (saved_at m sp) pc [] in subst P (sym e) q);
   goal = omega (arith, ap (λ m. word_at m 0x30000000) e, x.goal);
 }
 
@@ -103,9 +103,10 @@ behind_call h pc b n node c =
     let next = next_offset r x n node c.node_is in
     let next2 : node_offset r x (n + 1) ≡ node_offset r x (suc n) = ap (node_offset r x) (omega arith) in
     let long : length (node_code r owns locals at node k) ≡ length front + 1 = ap length (call_code r owns locals at node k c.call) ∙ length-append front (answered_code locals (k - taken node)) in
-    let here : m0.machine.pc + 24 + 4 * length front ≡ pc = omega (arith, c.address, next, next2, long) in
-    (let P : ℕ → Type 0 = λ z. At h.machine.memory z (answered_code locals (k - taken node)) in subst P here last,
-    record { aligned = omega (arith, t.1.aligned, here); from = omega (arith, t.1.from, here); to = omega (arith, t.1.to, here, long) })
+    let here : m0.machine.pc + 24 + 4 * length front ≡ pc = omega (arith, c.address, next, next2, long) in (
+      let P : ℕ → Type 0 = λ z. At h.machine.memory z (answered_code locals (k - taken node)) in subst P here last,
+      record { aligned = omega (arith, t.1.aligned, here); from = omega (arith, t.1.from, here); to = omega (arith, t.1.to, here, long) },
+    )
 
 -- how many values are pending after a node
 none_more : (nodes : List Node) (d : ℕ) → depth_from d nodes 0 ≡ d
@@ -216,12 +217,12 @@ answer_follows h b o answer r hosted run low left deep e =
       count = R.activations ∙ omega (arith, r.count, deep, r.few);
       few = omega (arith, r.few, deep);
       callers =
-        let tail = laid_as (IsCaller h) (IsCaller h1) (entry_frame h.current) ending_stub mem o (w 14) (frame_before mem (w 14) (but_first m.older)) (w 15 + 8) (but_first (but_first m.older)) (λ q s f y. caller_kept h t1 q s f (λ a below. ap (λ z. word_at z a) R.memory_is) y) l.1 in
-        let P : Words → ℕ → ℕ → List Window → Type 0 = λ z x y held. AreLaid (IsCaller h1) (entry_frame h.current) ending_stub z o x (frame_before z x held) (y + 8) (but_first held) in
-        subst (λ z. P z (t1.regs 30) (t1.regs 31) t1.older) (sym R.memory_is)
-        (subst (λ x. P mem x (t1.regs 31) t1.older) (sym v14)
-        (subst (λ y. P mem (w 14) y t1.older) (sym v15)
-        (subst (λ held. P mem (w 14) (w 15) held) (sym R.older) tail)));
+          let tail = laid_as (IsCaller h) (IsCaller h1) (entry_frame h.current) ending_stub mem o (w 14) (frame_before mem (w 14) (but_first m.older)) (w 15 + 8) (but_first (but_first m.older)) (λ q s f y. caller_kept h t1 q s f (λ a below. ap (λ z. word_at z a) R.memory_is) y) l.1 in
+          let P : Words → ℕ → ℕ → List Window → Type 0 = λ z x y held. AreLaid (IsCaller h1) (entry_frame h.current) ending_stub z o x (frame_before z x held) (y + 8) (but_first held) in
+          subst (λ z. P z (t1.regs 30) (t1.regs 31) t1.older) (sym R.memory_is)
+          (subst (λ x. P mem x (t1.regs 31) t1.older) (sym v14)
+          (subst (λ y. P mem (w 14) y t1.older) (sym v15)
+          (subst (λ held. P mem (w 14) (w 15) held) (sym R.older) tail)));
     } in
     let pc1 = m.regs 31 + 8 in
     let code = behind_call h pc1 b1 n1 c.node c.call in
@@ -266,28 +267,28 @@ answer_follows h b o answer r hosted run low left deep e =
     let rest : List Frame = activations (descriptor_at h) mem o (w 14) (frame_before mem (w 14) (but_first m.older)) (w 15 + 8) (but_first (but_first m.older)) in
     let split : callers_of h (suc o) ≡ cframe ∷ rest = first_seen (descriptor_at h) mem o (m.regs 30) w pc1 (but_first m.older) in
     let tail1 : callers_of h1 o ≡ rest =
-        ap (λ f. activations f t1.memory o (t1.regs 30) (frame_before t1.memory (t1.regs 30) t1.older) (t1.regs 31 + 8) (but_first t1.older)) (same_descriptors h t1)
-        ∙ ap (λ z. activations (descriptor_at h) z o (t1.regs 30) (frame_before z (t1.regs 30) t1.older) (t1.regs 31 + 8) (but_first t1.older)) R.memory_is
-        ∙ ap (λ x. activations (descriptor_at h) mem o x (frame_before mem x t1.older) (t1.regs 31 + 8) (but_first t1.older)) v14
-        ∙ ap (λ y. activations (descriptor_at h) mem o (w 14) (frame_before mem (w 14) t1.older) (y + 8) (but_first t1.older)) v15
-        ∙ ap (λ held. activations (descriptor_at h) mem o (w 14) (frame_before mem (w 14) held) (w 15 + 8) (but_first held)) R.older in
+    ap (λ f. activations f t1.memory o (t1.regs 30) (frame_before t1.memory (t1.regs 30) t1.older) (t1.regs 31 + 8) (but_first t1.older)) (same_descriptors h t1)
+    ∙ ap (λ z. activations (descriptor_at h) z o (t1.regs 30) (frame_before z (t1.regs 30) t1.older) (t1.regs 31 + 8) (but_first t1.older)) R.memory_is
+    ∙ ap (λ x. activations (descriptor_at h) mem o x (frame_before mem x t1.older) (t1.regs 31 + 8) (but_first t1.older)) v14
+    ∙ ap (λ y. activations (descriptor_at h) mem o (w 14) (frame_before mem (w 14) t1.older) (y + 8) (but_first t1.older)) v15
+    ∙ ap (λ held. activations (descriptor_at h) mem o (w 14) (frame_before mem (w 14) held) (w 15 + 8) (but_first held)) R.older in
     let view_is : kept t1.regs ≡ w = window_in_view t1.regs w (λ q h. R.view q h) (before_window mem (m.regs 30) m.older hosted.windows) in
     let was : viewed t1 b1 n1 locals j ≡ cframe =
-        ap (λ z. shown z (kept t1.regs) (t1.regs 14) (plain_descriptor b1 n1 locals j)) R.memory_is
-        ∙ ap (λ z. shown mem z (t1.regs 14) (plain_descriptor b1 n1 locals j)) view_is
-        ∙ ap (λ z. shown mem w z (plain_descriptor b1 n1 locals j)) R.frame
-        ∙ ap (shown mem w (m.regs 30)) (sym (told_call h pc1 b1 n1 c.node c.call)) in
+    ap (λ z. shown z (kept t1.regs) (t1.regs 14) (plain_descriptor b1 n1 locals j)) R.memory_is
+    ∙ ap (λ z. shown mem z (t1.regs 14) (plain_descriptor b1 n1 locals j)) view_is
+    ∙ ap (λ z. shown mem w z (plain_descriptor b1 n1 locals j)) R.frame
+    ∙ ap (shown mem w (m.regs 30)) (sym (told_call h pc1 b1 n1 c.node c.call)) in
     let number : cframe.next ≡ n1 = ap (λ (z : Frame). z.next) (sym was) in
     let moved : now ≡ moved_on (answer ∷ cframe.pending) cframe =
-        ap (viewed t2 b1 (n1 + 1) locals) deeper ∙ shows.0 b1 n1 (n1 + 1) ∙ ap (λ (z : Frame). record z { next = n1 + 1; pending = answer ∷ z.pending }) was
-        ∙ ap (λ (z : ℕ). record cframe { next = z + 1; pending = answer ∷ cframe.pending }) (sym number) in
+    ap (viewed t2 b1 (n1 + 1) locals) deeper ∙ shows.0 b1 n1 (n1 + 1) ∙ ap (λ (z : Frame). record z { next = n1 + 1; pending = answer ∷ z.pending }) was
+    ∙ ap (λ (z : ℕ). record cframe { next = z + 1; pending = answer ∷ cframe.pending }) (sym number) in
     let threads : threads_from (with_machine h t2) 0 h.statuses ≡ slice_set (threads_from h 0 h.statuses) h.current (answered_to (callers_of h (suc o)) answer) =
-        v.threads
-        ∙ ap (λ z. slice_set z h.current (Going (now ∷ callers_of h1 o))) (threads_set h h1 0 h.current h.statuses r.sp r.pc r.known refl (omega arith) r.running (waits_same h t1 R.memory_is))
-        ∙ set_set (threads_from h 0 h.statuses) h.current (Going (seen h1)) (Going (now ∷ callers_of h1 o))
-        ∙ ap (λ z. slice_set (threads_from h 0 h.statuses) h.current (Going (now ∷ z))) tail1
-        ∙ ap (λ z. slice_set (threads_from h 0 h.statuses) h.current (Going (z ∷ rest))) moved
-        ∙ ap (λ z. slice_set (threads_from h 0 h.statuses) h.current (answered_to z answer)) (sym split) in
+    v.threads
+    ∙ ap (λ z. slice_set z h.current (Going (now ∷ callers_of h1 o))) (threads_set h h1 0 h.current h.statuses r.sp r.pc r.known refl (omega arith) r.running (waits_same h t1 R.memory_is))
+    ∙ set_set (threads_from h 0 h.statuses) h.current (Going (seen h1)) (Going (now ∷ callers_of h1 o))
+    ∙ ap (λ z. slice_set (threads_from h 0 h.statuses) h.current (Going (now ∷ z))) tail1
+    ∙ ap (λ z. slice_set (threads_from h 0 h.statuses) h.current (Going (z ∷ rest))) moved
+    ∙ ap (λ z. slice_set (threads_from h 0 h.statuses) h.current (answered_to z answer)) (sym split) in
     let counted : t2.regs 2 ≡ m.regs 2 + 1 = R.counted ∙ omega (arith, left, hosted.goal) in
     record {
       instructions = e.instructions + 1;

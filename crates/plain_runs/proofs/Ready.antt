@@ -43,9 +43,10 @@ there_at h b n node p e =
     let e1 : p.at + 4 * length (entry_code r x) + 4 * before ≡ h.machine.pc = omega (arith, p.address) in
     let e2 : 0 + before ≡ before = omega arith in
     let next = next_offset r x n node e in
-    let within = node_within r x n node e in
-    (subst (λ a. P h.machine.pc a) e2 (subst (λ q. P q (0 + before)) e1 g),
-    record { aligned = omega (arith, p.address, u.region.aligned); from = omega (arith, p.address, u.region.from); to = omega (arith, p.address, u.region.to, next, within) })
+    let within = node_within r x n node e in (
+      subst (λ a. P h.machine.pc a) e2 (subst (λ q. P q (0 + before)) e1 g),
+      record { aligned = omega (arith, p.address, u.region.aligned); from = omega (arith, p.address, u.region.from); to = omega (arith, p.address, u.region.to, next, within) },
+    )
 
 -- a node is ready where a step is left of the goal
 pub ready_at : (h : Host) (b n : ℕ) (node : Node) → RunsAt h b n node → h.machine.regs 2 < word_at h.machine.memory 0x30000000
@@ -93,7 +94,7 @@ pended_follows h b n node next word r hosted run low left more deeper d =
     let poll_next = next_poll h b n node next to r.poll r.node_is more (unit_kept h to b r.poll.at (code_same h b to c) r.poll.unit) mv.stands.here in
     let counted : to.regs 2 ≡ m.regs 2 + 1 = mv.counted ∙ omega (arith, left, hosted.goal) in
     let v = view_on h b (n + 1) next to _ r.view hosted run low c mv.kept mv.older stands poll_next more
-        (ap (λ z. viewed to b (n + 1) locals z) deeper ∙ shows.0 b n (n + 1)) in
+    (ap (λ z. viewed to b (n + 1) locals z) deeper ∙ shows.0 b n (n + 1)) in
     record { instructions = d.instructions; to = to; goes = d.goes; on = view_goes_on h b (n + 1) next to _ r.view.older v c.heap counted (mv.kept 3 refl) (mv.kept 6 refl); runs = v.runs }
 
 -- A value is dropped.
@@ -119,9 +120,9 @@ dropped_follows h b n node next r hosted run low left more less d =
     let poll_next = next_poll h b n node next to r.poll r.node_is more (unit_kept h to b r.poll.at (code_same h b to c) r.poll.unit) mv.stands.here in
     let counted : to.regs 2 ≡ m.regs 2 + 1 = mv.counted ∙ omega (arith, left, hosted.goal) in
     let same : (z : ℕ) → z ≡ suc k → record (viewed m b n locals k) { next = n + 1 } ≡ moved_on (drop 1 (viewed m b n locals z).pending) (viewed m b n locals z) =
-        λ z e. (let P : ℕ → Type 0 = λ y. record (viewed m b n locals k) { next = n + 1 } ≡ moved_on (drop 1 (viewed m b n locals y).pending) (viewed m b n locals y) in subst P (sym e) refl) in
+    λ z e. (let P : ℕ → Type 0 = λ y. record (viewed m b n locals k) { next = n + 1 } ≡ moved_on (drop 1 (viewed m b n locals y).pending) (viewed m b n locals y) in subst P (sym e) refl) in
     let v = view_on h b (n + 1) next to _ r.view hosted run low c mv.kept mv.older stands poll_next more
-        (left_shows m to (m.pc + 4 * length (poll ++ code_at h b n node)) ((m.regs 2 + 1) % 2 ^ 32) locals k mv b n (n + 1) ∙ same (depth x.nodes n) less) in
+    (left_shows m to (m.pc + 4 * length (poll ++ code_at h b n node)) ((m.regs 2 + 1) % 2 ^ 32) locals k mv b n (n + 1) ∙ same (depth x.nodes n) less) in
     record { instructions = d.instructions; to = to; goes = d.goes; on = view_goes_on h b (n + 1) next to _ r.view.older v c.heap counted (mv.kept 3 refl) (mv.kept 6 refl); runs = v.runs }
 
 pub pended_follow : PendedFollows

@@ -165,7 +165,7 @@ same_descriptors h to = refl
 pub record Others (h : Host) (b : ℕ) (to : MachineState) : Type 0 where
   pub waits : OthersWait h (with_machine h to) 0 h.statuses
   pub laid : (k sp pc count : ℕ) → slice_get h.statuses k ≡ Some (Waiting sp pc count) → k ≢ h.current
-    → AreLaid (IsHeld (with_machine h to)) (entry_frame k) ending_stub to.memory count sp (saved_at to.memory sp) pc []
+      → AreLaid (IsHeld (with_machine h to)) (entry_frame k) ending_stub to.memory count sp (saved_at to.memory sp) pc []
 
 within_four : {A : Type 0} (xs : List A) (k : ℕ) (x : A) → slice_get xs k ≡ Some x → length xs ≤ 4 → k < 4
 within_four xs k x e few = omega (arith, slice_get_within xs k x e)
@@ -174,29 +174,29 @@ pub others_stay : (h : Host) (b : ℕ) (to : MachineState) → IsHosted h → Fr
     → h.machine.regs 14 / 0x02000000 ≡ entry_frame h.current / 0x02000000 → h.machine.regs 30 ≤ entry_frame h.current → Others h b to
 others_stay h b to hosted frames c low stack below =
     let each : (k sp pc count : ℕ) → slice_get h.statuses k ≡ Some (Waiting sp pc count) → k ≢ h.current → SameBetween sp (entry_frame k + 64) h.machine.memory to.memory =
-        λ k sp pc count e ne a from end.
-          let laid = hosted.others k sp pc count e ne in
-          let at = same_stack (descriptor_at h) (IsHeld h) (entry_frame k) ending_stub h.machine.memory count sp (saved_at h.machine.memory sp) pc [] frames laid in
-          let top = ends_below (descriptor_at h) (IsHeld h) (entry_frame k) ending_stub h.machine.memory count sp (saved_at h.machine.memory sp) pc [] frames laid in
-          let few = within_four h.statuses k (Waiting sp pc count) e hosted.activities in
-          c.changed a (in_words a (h.machine.regs 14) (h.machine.regs 30) (frame_words (body_in h.bodies b)) c.ends
-          (apart_stacks h.current k (h.machine.regs 14) (h.machine.regs 30) a (λ s. ne (sym s)) low few stack below (omega (arith, at, top, from, end)))) in
+    λ k sp pc count e ne a from end.
+    let laid = hosted.others k sp pc count e ne in
+    let at = same_stack (descriptor_at h) (IsHeld h) (entry_frame k) ending_stub h.machine.memory count sp (saved_at h.machine.memory sp) pc [] frames laid in
+    let top = ends_below (descriptor_at h) (IsHeld h) (entry_frame k) ending_stub h.machine.memory count sp (saved_at h.machine.memory sp) pc [] frames laid in
+    let few = within_four h.statuses k (Waiting sp pc count) e hosted.activities in
+    c.changed a (in_words a (h.machine.regs 14) (h.machine.regs 30) (frame_words (body_in h.bodies b)) c.ends
+    (apart_stacks h.current k (h.machine.regs 14) (h.machine.regs 30) a (λ s. ne (sym s)) low few stack below (omega (arith, at, top, from, end)))) in
     record {
       waits = λ k sp pc count e ne.
-        let laid = hosted.others k sp pc count e (λ s. ne (omega (arith, s))) in
-        let same = each k sp pc count e (λ s. ne (omega (arith, s))) in
-        let top = ends_below (descriptor_at h) (IsHeld h) (entry_frame k) ending_stub h.machine.memory count sp (saved_at h.machine.memory sp) pc [] frames laid in
-        ap (λ d. activations d to.memory count sp (saved_at to.memory sp) pc []) (same_descriptors h to)
-        ∙ ap (λ w. activations (descriptor_at h) to.memory count sp w pc []) (saved_same h.machine.memory to.memory sp (λ a from end. same a from (omega (arith, top))))
-        ∙ (rests (descriptor_at h) (IsHeld h) (entry_frame k) ending_stub h.machine.memory to.memory count sp (saved_at h.machine.memory sp) pc [] frames laid same).0;
+          let laid = hosted.others k sp pc count e (λ s. ne (omega (arith, s))) in
+          let same = each k sp pc count e (λ s. ne (omega (arith, s))) in
+          let top = ends_below (descriptor_at h) (IsHeld h) (entry_frame k) ending_stub h.machine.memory count sp (saved_at h.machine.memory sp) pc [] frames laid in
+          ap (λ d. activations d to.memory count sp (saved_at to.memory sp) pc []) (same_descriptors h to)
+          ∙ ap (λ w. activations (descriptor_at h) to.memory count sp w pc []) (saved_same h.machine.memory to.memory sp (λ a from end. same a from (omega (arith, top))))
+          ∙ (rests (descriptor_at h) (IsHeld h) (entry_frame k) ending_stub h.machine.memory to.memory count sp (saved_at h.machine.memory sp) pc [] frames laid same).0;
       laid = λ k sp pc count e ne.
-        let laid = hosted.others k sp pc count e ne in
-        let same = each k sp pc count e ne in
-        let top = ends_below (descriptor_at h) (IsHeld h) (entry_frame k) ending_stub h.machine.memory count sp (saved_at h.machine.memory sp) pc [] frames laid in
-        let r = (rests (descriptor_at h) (IsHeld h) (entry_frame k) ending_stub h.machine.memory to.memory count sp (saved_at h.machine.memory sp) pc [] frames laid same).1 in
-        let q = laid_as (IsHeld h) (IsHeld (with_machine h to)) (entry_frame k) ending_stub to.memory count sp (saved_at h.machine.memory sp) pc [] (λ u s f x. held_kept h to u s f (code_same h b to c) x) r in
-        let P : Window → Type 0 = λ w. AreLaid (IsHeld (with_machine h to)) (entry_frame k) ending_stub to.memory count sp w pc [] in
-        subst P (sym (saved_same h.machine.memory to.memory sp (λ a from end. same a from (omega (arith, top))))) q;
+          let laid = hosted.others k sp pc count e ne in
+          let same = each k sp pc count e ne in
+          let top = ends_below (descriptor_at h) (IsHeld h) (entry_frame k) ending_stub h.machine.memory count sp (saved_at h.machine.memory sp) pc [] frames laid in
+          let r = (rests (descriptor_at h) (IsHeld h) (entry_frame k) ending_stub h.machine.memory to.memory count sp (saved_at h.machine.memory sp) pc [] frames laid same).1 in
+          let q = laid_as (IsHeld h) (IsHeld (with_machine h to)) (entry_frame k) ending_stub to.memory count sp (saved_at h.machine.memory sp) pc [] (λ u s f x. held_kept h to u s f (code_same h b to c) x) r in
+          let P : Window → Type 0 = λ w. AreLaid (IsHeld (with_machine h to)) (entry_frame k) ending_stub to.memory count sp w pc [] in
+          subst P (sym (saved_same h.machine.memory to.memory sp (λ a from end. same a from (omega (arith, top))))) q;
     }
 
 -- The activations of the current activity are the youngest and its callers.
@@ -224,7 +224,7 @@ view_on h b n next to now r hosted run low c keeps held_same stands poll next_is
     let laid = r.callers in
     let frames = callers_have_room h run in
     let stack = one_stack (m.regs 14) (frame_words (body_in h.bodies b)) (m.regs 30) r.frame.place.3 r.frame.ends
-        ∙ same_stack (descriptor_at h) (IsCaller h) (entry_frame h.current) ending_stub m.memory r.older (m.regs 30) (frame_before m.memory (m.regs 30) m.older) (m.regs 31 + 8) (but_first m.older) frames laid in
+    ∙ same_stack (descriptor_at h) (IsCaller h) (entry_frame h.current) ending_stub m.memory r.older (m.regs 30) (frame_before m.memory (m.regs 30) m.older) (m.regs 31 + 8) (but_first m.older) frames laid in
     let below = ends_below (descriptor_at h) (IsCaller h) (entry_frame h.current) ending_stub m.memory r.older (m.regs 30) (frame_before m.memory (m.regs 30) m.older) (m.regs 31 + 8) (but_first m.older) frames laid in
     let others = others_stay h b to hosted (held_have_room h run) c low stack below in
     let cs = callers_stay h b to r.older (m.regs 30) (m.regs 31 + 8) (frame_before m.memory (m.regs 30) m.older) (but_first m.older) frames c refl laid in
@@ -233,23 +233,23 @@ view_on h b n next to now r hosted run low c keeps held_same stands poll next_is
     let older : List Frame = callers_of h r.older in
     let e4 : to.regs 4 ≡ suc r.older = keeps 4 refl ∙ r.count in
     let again : activations (descriptor_at h) to.memory r.older (to.regs 30) (frame_before to.memory (to.regs 30) to.older) (to.regs 31 + 8) (but_first to.older) ≡ older =
-        ap (λ x. activations (descriptor_at h) to.memory r.older x (frame_before to.memory x to.older) (to.regs 31 + 8) (but_first to.older)) e30
-        ∙ ap (λ x. activations (descriptor_at h) to.memory r.older (m.regs 30) (frame_before to.memory (m.regs 30) to.older) (x + 8) (but_first to.older)) e31
-        ∙ ap (λ x. activations (descriptor_at h) to.memory r.older (m.regs 30) (frame_before to.memory (m.regs 30) x) (m.regs 31 + 8) (but_first x)) held_same
-        ∙ ap (λ x. activations (descriptor_at h) to.memory r.older (m.regs 30) x (m.regs 31 + 8) (but_first m.older)) before
-        ∙ cs.0 in
+    ap (λ x. activations (descriptor_at h) to.memory r.older x (frame_before to.memory x to.older) (to.regs 31 + 8) (but_first to.older)) e30
+    ∙ ap (λ x. activations (descriptor_at h) to.memory r.older (m.regs 30) (frame_before to.memory (m.regs 30) to.older) (x + 8) (but_first to.older)) e31
+    ∙ ap (λ x. activations (descriptor_at h) to.memory r.older (m.regs 30) (frame_before to.memory (m.regs 30) x) (m.regs 31 + 8) (but_first x)) held_same
+    ∙ ap (λ x. activations (descriptor_at h) to.memory r.older (m.regs 30) x (m.regs 31 + 8) (but_first m.older)) before
+    ∙ cs.0 in
     let top : shown to.memory (kept to.regs) (to.regs 14) (descriptor_at h2 to.pc) ≡ now =
-        ap (shown to.memory (kept to.regs) (to.regs 14)) (poll_descriptor h2 to.pc b n next poll next_is) ∙ shows in
+    ap (shown to.memory (kept to.regs) (to.regs 14)) (poll_descriptor h2 to.pc b n next poll next_is) ∙ shows in
     let now_seen : seen h2 ≡ now ∷ older = seen_as (descriptor_at h2) to r.older e4 ∙ ap (λ x. x ∷ activations (descriptor_at h2) to.memory r.older (to.regs 30) (frame_before to.memory (to.regs 30) to.older) (to.regs 31 + 8) (but_first to.older)) top ∙ ap (λ d. now ∷ activations d to.memory r.older (to.regs 30) (frame_before to.memory (to.regs 30) to.older) (to.regs 31 + 8) (but_first to.older)) (same_descriptors h to) ∙ ap (λ xs. now ∷ xs) again in
     let threads : threads_from h2 0 h.statuses ≡ slice_set (threads_from h 0 h.statuses) h.current (Going (now ∷ older)) =
-        threads_set h h2 0 h.current h.statuses r.sp r.pc r.known refl (omega arith) r.running others.waits ∙ ap (λ x. slice_set (threads_from h 0 h.statuses) h.current (Going x)) now_seen in
+    threads_set h h2 0 h.current h.statuses r.sp r.pc r.known refl (omega arith) r.running others.waits ∙ ap (λ x. slice_set (threads_from h 0 h.statuses) h.current (Going x)) now_seen in
     let code = code_same h b to c in
     let Q : ℕ → ℕ → Window → List Window → Type 0 = λ x y w held. AreLaid (IsCaller h2) (entry_frame h.current) ending_stub to.memory r.older x w (y + 8) held in
     let laid_now : Q (to.regs 30) (to.regs 31) (frame_before to.memory (to.regs 30) to.older) (but_first to.older) =
-        subst (λ x. Q x (to.regs 31) (frame_before to.memory x to.older) (but_first to.older)) (sym e30)
-        (subst (λ y. Q (m.regs 30) y (frame_before to.memory (m.regs 30) to.older) (but_first to.older)) (sym e31)
-        (subst (λ x. Q (m.regs 30) (m.regs 31) (frame_before to.memory (m.regs 30) x) (but_first x)) (sym held_same)
-        (subst (λ x. Q (m.regs 30) (m.regs 31) x (but_first m.older)) (sym before) cs.1))) in
+    subst (λ x. Q x (to.regs 31) (frame_before to.memory x to.older) (but_first to.older)) (sym e30)
+    (subst (λ y. Q (m.regs 30) y (frame_before to.memory (m.regs 30) to.older) (but_first to.older)) (sym e31)
+    (subst (λ x. Q (m.regs 30) (m.regs 31) (frame_before to.memory (m.regs 30) x) (but_first x)) (sym held_same)
+    (subst (λ x. Q (m.regs 30) (m.regs 31) x (but_first m.older)) (sym before) cs.1))) in
     record {
       hosted = record {
         within = c.within;

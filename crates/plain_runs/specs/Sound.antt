@@ -80,7 +80,7 @@ pub record IsHosted (h : Host) : Type 0 where
   pub stub : At h.machine.memory ending_stub (Trap 9 ∷ [])
   pub activities : length h.statuses ≤ 4
   pub others : (k sp pc count : ℕ) → slice_get h.statuses k ≡ Some (Waiting sp pc count) → k ≢ h.current
-    → AreLaid (IsHeld h) (entry_frame k) ending_stub h.machine.memory count sp (saved_at h.machine.memory sp) pc []
+      → AreLaid (IsHeld h) (entry_frame k) ending_stub h.machine.memory count sp (saved_at h.machine.memory sp) pc []
   pub goal : word_at h.machine.memory 0x30000000 ≤ 1000000000
 
 -- the activations that wait below the youngest of the current activity, so many of them

@@ -92,7 +92,7 @@ fills (w ∷ ws) slot t sp words e f room =
     let k = rest.1 in
     let Q : ℕ → Type 0 = λ z. HasWord (add z (local_offset slot)) × (0x20000000 ≤ add z (local_offset slot)) in
     let first : x.memory ≡ with_word t.memory (sp + local_offset slot) w =
-        ap (λ z. with_word t.memory (add z (local_offset slot)) (bit_or (w / 1024 * 2 ^ 10) (w % 1024))) e ∙ ap (λ z. with_word t.memory z (bit_or (w / 1024 * 2 ^ 10) (w % 1024))) p.address ∙ ap (with_word t.memory (sp + local_offset slot)) (two_parts w) in (
+    ap (λ z. with_word t.memory (add z (local_offset slot)) (bit_or (w / 1024 * 2 ^ 10) (w % 1024))) e ∙ ap (λ z. with_word t.memory z (bit_or (w / 1024 * 2 ^ 10) (w % 1024))) p.address ∙ ap (with_word t.memory (sp + local_offset slot)) (two_parts w) in (
       (tt, (tt, (subst Q (sym e) (p.has, p.outside), rest.0))),
       record {
         memory_is = k.memory_is ∙ next_place x.memory sp slot ws ∙ ap (λ z. with_words z (sp + local_offset slot + 4) ws) first;
@@ -160,10 +160,10 @@ by_holder x p words s1 a1 a2 at true e test first =
       instructions = 3;
       to = z;
       goes =
-        goes_on 2 x y z first
-        (goes_on 1 y t z (stepped_to y t (p + 4) (p + 4 + 4) (suc words) (Branch true 1 (pos 2)) s1 a1 at.1.0 refl tt taken)
-        (goes_on 0 t z z (stepped t (p + 4 + 4) (p + 4 + 4 * 2) words (move 5 24) s2 a2 at.1.1.0 refl tt)
-        (goes_none z)));
+          goes_on 2 x y z first
+          (goes_on 1 y t z (stepped_to y t (p + 4) (p + 4 + 4) (suc words) (Branch true 1 (pos 2)) s1 a1 at.1.0 refl tt taken)
+          (goes_on 0 t z z (stepped t (p + 4 + 4) (p + 4 + 4 * 2) words (move 5 24) s2 a2 at.1.1.0 refl tt)
+          (goes_none z)));
       stands = stands_as z.pc z.npc (p + 4 + 4 * 2) (p + 4 + 4 * 2 + 4) (p + 12) (p + 12 + 4) s3 (omega arith) (omega arith);
       memory_is = refl;
       holder = chosen (nat_eq (x.regs 5) 0) (z.regs 5) (x.regs 5) (x.regs 24) e (or_zero_r (x.regs 24));
@@ -236,30 +236,32 @@ fill t sp words arguments initial e f few room =
     let c = straight (initial_stores arguments initial) b in
     let d = straight last_code c in
     let whole : straight (kept_code arguments initial) t ≡ d =
-        straight_on (front_code arguments) (initial_stores arguments initial ++ last_code) t ∙ straight_on (initial_stores arguments initial) last_code b in
+    straight_on (front_code arguments) (initial_stores arguments initial ++ last_code) t ∙ straight_on (initial_stores arguments initial) last_code b in
     let can = can_both (front_code arguments) (initial_stores arguments initial ++ last_code) t
-        (subst Q (sym e) (p.has, p.outside), (tt, (tt, kb.0)))
-        (can_both (initial_stores arguments initial) last_code b kc.0 (tt, (tt, tt))) in
+    (subst Q (sym e) (p.has, p.outside), (tt, (tt, kb.0)))
+    (can_both (initial_stores arguments initial) last_code b kc.0 (tt, (tt, tt))) in
     let first : a.memory ≡ with_word t.memory (sp + holder_offset) (t.regs 5) = ap (λ z. with_word t.memory (add z holder_offset) (t.regs 5)) e ∙ ap (λ z. with_word t.memory z (t.regs 5)) p.address in
     let args : registers_from a.regs 25 arguments ≡ registers_from t.regs 25 arguments = from_to arguments 25 25 a.regs t.regs (λ j lt. unlike_kept t j a.regs refl (omega arith)) in
     let long : sp + local_offset arguments ≡ sp + local_offset 0 + 4 * length (registers_from a.regs 25 arguments) = omega (arith, registers_long a.regs 25 arguments) in
     let memory : d.memory ≡ filled_memory t sp arguments initial =
-        kc.1.memory_is
-        ∙ ap (λ z. with_words z (sp + local_offset arguments) initial) kb.1.memory_is
-        ∙ with_words_both a.memory (sp + local_offset 0) (registers_from a.regs 25 arguments) initial (sp + local_offset arguments) long
-        ∙ ap (λ z. with_words z (sp + local_offset 0) (registers_from a.regs 25 arguments ++ initial)) first
-        ∙ ap (λ ws. with_words (with_word t.memory (sp + holder_offset) (t.regs 5)) (sp + local_offset 0) (ws ++ initial)) args in
-    let through : (r : ℕ) → nat_eq r 1 ≡ false → c.regs r ≡ a.regs r = λ r n1. kc.1.regs r n1 ∙ ap (λ g. g r) kb.1.regs in
-    (can, (let P : MachineState → Type 0 = λ z. Filled t z (filled_memory t sp arguments initial) in subst P (sym whole) (record {
-      memory_is = memory;
-      outer = through 16 refl ∙ or_zero_r (t.regs 0);
-      context = through 17 refl ∙ or_zero_r (t.regs 0);
-      counted = ap (λ z. (z + 1) % 2 ^ 32) (through 2 refl);
-      activations = ap (λ z. (z + 1) % 2 ^ 32) (through 4 refl);
-      kept = λ r n1 n2 n4 n16 n17. other_register (with_reg c.regs 4 _) 2 _ r n2 ∙ other_register c.regs 4 _ r n4 ∙ through r n1
-        ∙ other_register (with_reg t.regs 16 _) 17 _ r n17 ∙ other_register t.regs 16 _ r n16;
-      older = kc.1.older ∙ kb.1.older;
-    })))
+    kc.1.memory_is
+    ∙ ap (λ z. with_words z (sp + local_offset arguments) initial) kb.1.memory_is
+    ∙ with_words_both a.memory (sp + local_offset 0) (registers_from a.regs 25 arguments) initial (sp + local_offset arguments) long
+    ∙ ap (λ z. with_words z (sp + local_offset 0) (registers_from a.regs 25 arguments ++ initial)) first
+    ∙ ap (λ ws. with_words (with_word t.memory (sp + holder_offset) (t.regs 5)) (sp + local_offset 0) (ws ++ initial)) args in
+    let through : (r : ℕ) → nat_eq r 1 ≡ false → c.regs r ≡ a.regs r = λ r n1. kc.1.regs r n1 ∙ ap (λ g. g r) kb.1.regs in (
+      can,
+      (let P : MachineState → Type 0 = λ z. Filled t z (filled_memory t sp arguments initial) in subst P (sym whole) (record {
+        memory_is = memory;
+        outer = through 16 refl ∙ or_zero_r (t.regs 0);
+        context = through 17 refl ∙ or_zero_r (t.regs 0);
+        counted = ap (λ z. (z + 1) % 2 ^ 32) (through 2 refl);
+        activations = ap (λ z. (z + 1) % 2 ^ 32) (through 4 refl);
+        kept = λ r n1 n2 n4 n16 n17. other_register (with_reg c.regs 4 _) 2 _ r n2 ∙ other_register c.regs 4 _ r n4 ∙ through r n1
+            ∙ other_register (with_reg t.regs 16 _) 17 _ r n17 ∙ other_register t.regs 16 _ r n16;
+        older = kc.1.older ∙ kb.1.older;
+      })),
+    )
 
 kept_straight : (arguments : ℕ) (initial : List ℕ) → all_straight (kept_code arguments initial) ≡ true
 kept_straight arguments initial =
@@ -305,13 +307,13 @@ method_enters m p words arguments initial c =
       instructions = suc (h.instructions + length (kept_code arguments initial));
       to = to;
       goes = goes_on (h.instructions + length (kept_code arguments initial)) m x to (stepped m p (p + 4) _ (Three ops.Save 14 14 (Imm (negsuc (bytes - 1)))) c.stands a c.code_there.0 refl c.can_save)
-        (goes_then h.instructions (length (kept_code arguments initial)) x t to h.goes g.0);
+          (goes_then h.instructions (length (kept_code arguments initial)) x t to h.goes g.0);
       entered = record {
         stands = stands_as to.pc to.npc _ _ _ _ g.1 (omega (arith, n)) (omega (arith, n));
         memory_is = f.memory_is
-          ∙ ap (λ z. with_words (with_word z (place + holder_offset) (t.regs 5)) (place + local_offset 0) (registers_from t.regs 25 arguments ++ initial)) h.memory_is
-          ∙ ap (λ z. with_words (with_word memory (place + holder_offset) z) (place + local_offset 0) (registers_from t.regs 25 arguments ++ initial)) h.holder
-          ∙ ap (λ ws. with_words (with_word memory (place + holder_offset) (handed_holder m)) (place + local_offset 0) (ws ++ initial)) args;
+            ∙ ap (λ z. with_words (with_word z (place + holder_offset) (t.regs 5)) (place + local_offset 0) (registers_from t.regs 25 arguments ++ initial)) h.memory_is
+            ∙ ap (λ z. with_words (with_word memory (place + holder_offset) z) (place + local_offset 0) (registers_from t.regs 25 arguments ++ initial)) h.holder
+            ∙ ap (λ ws. with_words (with_word memory (place + holder_offset) (handed_holder m)) (place + local_offset 0) (ws ++ initial)) args;
         receiver = f.kept 24 refl refl refl refl refl ∙ h.regs 24 refl;
         outer = f.outer ∙ h.regs 0 refl ∙ c.register_0;
         context = f.context ∙ h.regs 0 refl ∙ c.register_0;

@@ -93,7 +93,7 @@ returned m t memory answer can e e24 e2 e4 e3 e6 e30 e31 eo e0 =
       register_0 = ap (λ z. with_reg z 0 w 0) g ∙ zero_takes t.regs t.pc 0 ∙ e0;
       frame = ap (λ z. with_reg z 0 w 14) g ∙ e30;
       view = λ k h. ap (λ z. with_reg z 0 w (16 + k)) g ∙ in_view x.regs (frame_before x.memory (x.regs 30) x.older) w k h
-        ∙ ap (λ z. frame_before z (t.regs 30) t.older k) e ∙ ap (λ z. frame_before memory z t.older k) e30 ∙ ap (λ z. frame_before memory (m.regs 30) z k) eo;
+          ∙ ap (λ z. frame_before z (t.regs 30) t.older k) e ∙ ap (λ z. frame_before memory z t.older k) e30 ∙ ap (λ z. frame_before memory (m.regs 30) z k) eo;
       older = older_rest x.older x refl ∙ ap but_first eo;
     }
 

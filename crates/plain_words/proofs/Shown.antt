@@ -65,22 +65,22 @@ pended_shows m to p steps words locals k word whole frame room moved =
     let es : to.regs 14 ≡ sp = moved.kept 14 refl in
     let top : word_at new at ≡ word = put_there m.memory at word whole there in
     let shows : (body node next : ℕ) → shown new w sp (plain_descriptor body next locals (k + 1)) ≡ record (viewed m body node locals k) { next = next; pending = word ∷ (viewed m body node locals k).pending } =
-        λ body node next i. record {
-          body = body;
-          next = next;
-          receiver = w 8;
-          holder = others_stay m.memory at word (sp + holder_offset) (omega arith) i;
-          outer = w 0;
-          context = w 1;
-          mark = sp;
-          locals = slots_stay m.memory w sp at word (local_offset 0) locals (omega arith) i;
-          pending = pended_list m.memory w sp word locals k top i;
-        } in (
+    λ body node next i. record {
+      body = body;
+      next = next;
+      receiver = w 8;
+      holder = others_stay m.memory at word (sp + holder_offset) (omega arith) i;
+      outer = w 0;
+      context = w 1;
+      mark = sp;
+      locals = slots_stay m.memory w sp at word (local_offset 0) locals (omega arith) i;
+      pending = pended_list m.memory w sp word locals k top i;
+    } in (
       λ body node next.
-        ap (λ z. shown z (kept to.regs) (to.regs 14) (plain_descriptor body next locals (k + 1))) moved.memory_is
-        ∙ ap (λ z. shown new z (to.regs 14) (plain_descriptor body next locals (k + 1))) ew
-        ∙ ap (λ z. shown new w z (plain_descriptor body next locals (k + 1))) es
-        ∙ shows body node next,
+          ap (λ z. shown z (kept to.regs) (to.regs 14) (plain_descriptor body next locals (k + 1))) moved.memory_is
+          ∙ ap (λ z. shown new z (to.regs 14) (plain_descriptor body next locals (k + 1))) ew
+          ∙ ap (λ z. shown new w z (plain_descriptor body next locals (k + 1))) es
+          ∙ shows body node next,
       λ b out. ap (λ z. word_at z b) moved.memory_is ∙ others_stay m.memory at word b (outside sp words (pending_offset locals k) b out (omega arith)),
     )
 

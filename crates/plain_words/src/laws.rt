@@ -11,66 +11,55 @@ ghost use Rattle.plain_words.specs.Moves.{IsReady, Does, pended, HasLocal, local
 /// The words of a constant pend it.
 pub fn constants_are_pended()
     ensures { (m : MachineState) (p words locals k word : ℕ) → IsReady m p words (constant_code locals k word) → 27 + locals + k < words → Does m p (constant_code locals k word) (pended m locals k word) }
-{
-}
+{}
 
 /// Those of `self` pend the receiver.
 pub fn receivers_are_pended()
     ensures { (m : MachineState) (p words locals k : ℕ) → IsReady m p words (self_code locals k) → 27 + locals + k < words → Does m p (self_code locals k) (pended m locals k (m.regs 24)) }
-{
-}
+{}
 
 /// The end of a statement counts its step.
 pub fn values_are_dropped()
     ensures { (m : MachineState) (p words : ℕ) → IsReady m p words drop_code → Does m p drop_code m.memory }
-{
-}
+{}
 
 /// Those of a local, however many bodies out, pend its word.
 pub fn locals_are_read()
     ensures { (m : MachineState) (p words : ℕ) (owns : Bool) (locals k up slot : ℕ) → IsReady m p words (read_code owns locals k up slot) → 27 + locals + k < words → HasLocal m words owns up slot → Does m p (read_code owns locals k up slot) (pended m locals k (word_at m.memory (local_address m owns up slot))) }
-{
-}
+{}
 
 /// Those of an assignment put the value for the local, and pend the receiver in its place.
 pub fn locals_are_stored()
     ensures { (m : MachineState) (p words : ℕ) (owns : Bool) (locals k up slot : ℕ) → IsReady m p words (store_code owns locals k up slot) → 27 + locals + k < words → HasLocal m words owns up slot → Does m p (store_code owns locals k up slot) (assigned m owns locals k up slot) }
-{
-}
+{}
 
 /// Those of a message to a stated receiver ask for service 1.
 pub fn messages_are_sent()
     ensures { (m : MachineState) (p words locals k args : ℕ) → IsReady m p words (send_code locals k args) → args ≤ 5 → 28 + locals + k + args ≤ words → Asks m 1 (p + 24 + 4 * (1 + args)) (word_at m.memory (m.regs 14 + pending_offset locals k)) locals (k + 1) args }
-{
-}
+{}
 
 /// Those of a message without a receiver, of a resend and of a directed one ask for it with the activation's own.
 pub fn own_messages_are_sent()
     ensures { (m : MachineState) (p words locals k args : ℕ) → IsReady m p words (implied_code locals k args) → args ≤ 5 → 27 + locals + k + args ≤ words → Asks m 1 (p + 24 + 4 * (1 + args)) (m.regs 24) locals k args }
-{
-}
+{}
 
 /// Those of a return from a home method ask for service 4, with the answer in %o0.
 pub fn home_returns_are_asked()
     ensures { (m : MachineState) (p words locals k : ℕ) → IsReady m p words (non_local_code locals k) → 28 + locals + k ≤ words → Asks m 4 (p + 24 + 4 * (1 + 0)) (word_at m.memory (m.regs 14 + pending_offset locals k)) locals (k + 1) 0 }
-{
-}
+{}
 
 /// Those of a return lead to the caller's frame, with the answer in its %o0, and put 0 for the mark of the activation's context.
 pub fn activations_return()
     ensures { (m : MachineState) (p words : ℕ) (owns : Bool) (locals k : ℕ) → IsReady m p words (return_code owns locals k) → 27 + locals + k < words → HasContext m owns → CanReturn m → Ends m (unmarked m owns) (word_at m.memory (m.regs 14 + pending_offset locals k)) }
-{
-}
+{}
 
 /// Those before a method's first node lead into it: its frame is made and filled, and the activation and the step are counted.
 pub fn methods_are_entered()
     ensures { (m : MachineState) (p words arguments : ℕ) (initial : List ℕ) (c : CanEnter m p words arguments initial) → Enters m (p + 4 * length (method_code (4 * words) arguments initial)) c.place (entered_memory m c.place arguments initial) }
-{
-}
+{}
 
 /// What the frame in view shows after a word was pended, and where nothing was stored.
 pub fn frames_show_on()
     ensures pended { PendedShows }
     ensures left { LeftShows }
-{
-}
+{}

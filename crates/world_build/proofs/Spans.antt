@@ -45,11 +45,11 @@ built_sum : (f : Thing → ℕ) (g : Core → ToldContent → ℕ) → ((core : 
 built_sum f g k names bytes is w e =
     let t = finished_things (Nodes.loaded bytes is (begun names)) w e in
     omega (
-        arith,
-        told_weight (λ x. f (thing_of t.core x)) (g t.core) (k t.core) bytes is names t.loading t.was,
-        ap (sum_of f) t.things,
-        sum_append f (map (thing_of t.core) t.loading.things) (map Text fixed_strings),
-        sum_told f t.core t.loading.things,
+      arith,
+      told_weight (λ x. f (thing_of t.core x)) (g t.core) (k t.core) bytes is names t.loading t.was,
+      ap (sum_of f) t.things,
+      sum_append f (map (thing_of t.core) t.loading.things) (map Text fixed_strings),
+      sum_told f t.core t.loading.things,
     )
 
 -- Words.

@@ -131,6 +131,7 @@ cores_there s (n ∷ ns) os some e i = by (λ ps f k. cores_there s ns ps some f
   where
     ok_list : (a b : List ℕ) → ◌≡◌ {A = Result (List ℕ) BuildRefusal} (Ok a) (Ok b) → a ≡ b
     ok_list a b e = cc
+
     by : ((ps : List ℕ) → cores s ns ≡ Ok ps → (k : ℕ) → slice_index_or ps k 0 < length s.things) → (o : Option ℕ) (r : Result (List ℕ) BuildRefusal) → core_object s n ≡ o → cores s ns ≡ r → with_core n o r ≡ Ok os → (i : ℕ) → slice_index_or os i 0 < length s.things
     by rest None r eo er e i = cc
     by rest (Some p) (Err q) eo er e i = cc
@@ -151,6 +152,7 @@ made (Ok s) w e = by (cores s core_names) refl e
   where
     world_same : (a b : World) → ◌≡◌ {A = Result World BuildRefusal} (Ok a) (Ok b) → a ≡ b
     world_same a b e = cc
+
     by : (c : Result (List ℕ) BuildRefusal) → cores s core_names ≡ c → world_of s c ≡ Ok w → Made (Ok s) w
     by (Err q) ec e = cc
     by (Ok numbers) ec e = record { loading = s; numbers = numbers; was = refl; cores_are = ec; is = sym (world_same (world_with s (core_of numbers)) w e) }
