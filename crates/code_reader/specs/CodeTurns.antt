@@ -1,5 +1,5 @@
 -- What the code's functions do at a sign of a body, as functions on lists. Plumbing of the reader: no clause of self_reader's public functions cites it.
-use Rattle.std.specs.Prelude.{ℕ, ◌==◌, Bool, true, false, ◌&&◌, cond, Option, None, Some, option_and_then, List, [], ◌∷◌, ◌++◌}
+use Rattle.std.specs.Prelude.{ℕ, ◌==◌, Bool, true, false, ◌&&◌, cond, Option, None, Some, option_and_then, List, [], ◌∷◌}
 use Rattle.self_grammar.specs.declared.signs.Spot.{Spot}
 use Rattle.self_grammar.specs.declared.signs.Reserved.{Reserved}
 use Rattle.self_grammar.specs.declared.signs.Reserved.TheVariants.{Free, Itself, Resend}

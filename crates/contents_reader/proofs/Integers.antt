@@ -1,5 +1,5 @@
 -- An integer that is passed is the same where it fits.
-use Rattle.std.proofs.Common.{◌≡◌, ℤ, subst, w32, to_z, of_z}
+use Rattle.std.proofs.Common.{ℤ, subst, w32, to_z, of_z}
 use Rattle.std.specs.Prelude.{Result, List, false}
 use Rattle.std.proofs.lemmas.Int.{to_z-of_z}
 use Rattle.self_grammar.specs.declared.pieces.Item.TheVariants as items

@@ -1,5 +1,5 @@
 -- What a sign does in the slots of a block, on lists. Plumbing of the reader: no clause of self_reader's public functions cites it.
-use Rattle.std.specs.Prelude.{ℕ, Bool, true, false, if◌then◌else◌, Option, None, Some, option_and_then, List, [], ◌∷◌, ◌++◌}
+use Rattle.std.specs.Prelude.{ℕ, Bool, true, false, if◌then◌else◌, Option, None, Some, option_and_then, List, [], ◌∷◌}
 use Rattle.self_grammar.specs.declared.signs.Spot.{Spot}
 use Rattle.self_grammar.specs.declared.signs.Role.{Role}
 use Rattle.self_grammar.specs.declared.signs.Role.TheVariants.{Equals, Arrow, Star, Other}

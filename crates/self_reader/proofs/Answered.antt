@@ -1,5 +1,5 @@
 -- What the reader answers of the signs of a text is what the grammar says of them: its items, or the refusal.
-use Rattle.std.specs.Prelude.{◌≡◌, Option, None, Some, Result, Ok, Err, IfOk, List, [], ◌∷◌, ◌++◌, refl}
+use Rattle.std.specs.Prelude.{◌≡◌, Result, Ok, Err, IfOk, List, [], ◌∷◌, ◌++◌, refl}
 use Rattle.std.proofs.Common.{ap, sym, subst, ◌∙◌, append_assoc}
 use Rattle.self_grammar.specs.declared.signs.Spot.{Spot}
 use Rattle.self_grammar.specs.declared.signs.Symbol.{Symbol}
@@ -7,7 +7,7 @@ use Rattle.self_grammar.specs.declared.signs.Sign.{Sign}
 use Rattle.self_grammar.specs.declared.signs.ReadRefusal.{ReadRefusal}
 use Rattle.self_grammar.specs.declared.pieces.Item.{Item}
 use Rattle.self_grammar.specs.Grammar as g
-use Rattle.self_grammar.specs.Counts.{Limits, Mark, Context, Writer, write, mark_at, moved, items_at}
+use Rattle.self_grammar.specs.Counts.{Limits, Mark, Writer, write, mark_at, moved}
 use Rattle.self_grammar.specs.Refusal.{IsText, IsRefused}
 use Rattle.self_grammar.specs.Spelling.{items_of}
 use Rattle.self_grammar.specs.Spelling as s
@@ -15,7 +15,7 @@ use Rattle.self_grammar.proofs.Places.{Text, marks}
 use Rattle.self_grammar.proofs.Places as p
 use Rattle.self_grammar.proofs.Moves
 use Rattle.self_grammar.proofs.Bases.{base}
-use Rattle.self_grammar.proofs.Reading.{State, world_start, edit_start, move, goes_on, step}
+use Rattle.self_grammar.proofs.Reading.{State, world_start, edit_start, goes_on, step}
 use Rattle.self_grammar.proofs.Found.{Reached, world_reached, edit_reached, run, runs_on, text_marks, is_text}
 use Rattle.self_grammar.proofs.Found as found
 use Rattle.self_grammar.proofs.Only.{Ends, world_is_read, edit_is_read}

@@ -1,5 +1,5 @@
 -- The signs of a text are whole, and what a world says is little.
-use Rattle.std.proofs.Common.{◌≡◌, ℕ, ◌+◌, ◌*◌, ◌≤◌, List, [], ◌∷◌, length, map, ap, sym, ◌∙◌, arith}
+use Rattle.std.proofs.Common.{◌≡◌, ℕ, ◌+◌, ◌*◌, ◌≤◌, List, [], ◌∷◌, length, ap, arith}
 use Rattle.std.proofs.lemmas.List.{length-map}
 use Rattle.self_tokens.specs.Tokens.{tokens}
 use Rattle.self_grammar.specs.declared.signs.Sign.{Sign}

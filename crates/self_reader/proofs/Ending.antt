@@ -1,5 +1,5 @@
 -- Behind the end of a text its place is finished.
-use Rattle.std.specs.Prelude.{◌≡◌, true, Option, None, Some, Ok, Err, List, [], ◌∷◌, Result, refl}
+use Rattle.std.specs.Prelude.{◌≡◌, true, None, Some, Ok, Err, List, [], ◌∷◌, Result, refl}
 use Rattle.std.proofs.Common.{ap, sym, ◌∙◌}
 use Rattle.self_grammar.specs.declared.signs.Spot.{Spot}
 use Rattle.self_grammar.specs.declared.signs.Symbol.{Symbol}

@@ -1,8 +1,6 @@
 -- The code's turn is the grammar's move, at each place.
-use Rattle.std.specs.Prelude.{Option}
 use Rattle.self_grammar.specs.declared.signs.Spot.{Spot}
 use Rattle.self_grammar.specs.declared.signs.Symbol.{Symbol}
-use Rattle.self_grammar.specs.Grammar as g
 use Rattle.self_grammar.specs.Counts.{Limits, Context}
 use Rattle.self_grammar.proofs.Moves as m
 use Rattle.self_grammar.proofs.Reading as r

@@ -1,13 +1,11 @@
 -- The reader takes a sign as the grammar's places do, and says what the mark of that sign says.
-use Rattle.std.specs.Prelude.{◌≡◌, Option, None, Some, Result, Ok, Err, List, refl}
+use Rattle.std.specs.Prelude.{◌≡◌, Option, None, Some, Result, Ok, Err, refl}
 use Rattle.std.proofs.Common.{ap, sym, subst, ◌∙◌}
 use Rattle.self_grammar.specs.declared.signs.Spot.{Spot}
 use Rattle.self_grammar.specs.declared.signs.Symbol.{Symbol}
 use Rattle.self_grammar.specs.declared.signs.Symbol.TheVariants as sign
 use Rattle.self_grammar.specs.declared.signs.ReadRefusal.{ReadRefusal}
-use Rattle.self_grammar.specs.declared.pieces.Item.{Item}
-use Rattle.self_grammar.specs.Counts.{Limits, Context, Event, mark_at, breaches, items_at, moved}
-use Rattle.self_grammar.specs.Refusal.{bad_syntax}
+use Rattle.self_grammar.specs.Counts.{Limits, Context, breaches, items_at, moved}
 use Rattle.self_grammar.proofs.Moves as m
 use Rattle.self_grammar.proofs.Reading as g
 use Rattle.self_grammar.proofs.Reading.{State, move, step}

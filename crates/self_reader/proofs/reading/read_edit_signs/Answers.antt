@@ -1,5 +1,5 @@
 use Rattle.std.specs.Prelude.{List}
-use Rattle.std.proofs.Common.{◌≡◌, ap, subst, ◌∙◌, Vec, Global}
+use Rattle.std.proofs.Common.{subst, Vec, Global}
 use Rattle.self_grammar.specs.declared.pieces.Item.{Item}
 use Rattle.self_grammar.specs.Grammar.{Edit}
 use Rattle.self_grammar.specs.Spelling.{edit, items_of}

@@ -1,5 +1,4 @@
-use Rattle.std.proofs.Common.{◌≡◌, ◌∙◌, ap, sym, subst, length, List, ℕ, arith}
-use Rattle.self_grammar.specs.declared.signs.Sign.{Sign}
+use Rattle.std.proofs.Common.{◌≡◌, ◌∙◌, ap, subst, length, arith}
 use Rattle.self_grammar.specs.Grammar.{World}
 use Rattle.self_grammar.specs.Spelling.{world}
 use Rattle.self_reader.specs.declared.texts.TheConstants.{LIMITS}
