@@ -2,8 +2,7 @@
 use Rattle.std.proofs.Common.{◌≡◌, ℕ, ◌<◌, ◌≤◌, ◌∙◌, List, [], ◌∷◌, length, codes, Option, Some, ap, sym, subst, arith}
 use Rattle.std.specs.Prelude.{None, Ok, Err}
 use Rattle.std.proofs.lemmas.Option.{none-some, same_Some}
-use Rattle.source_model.specs.State.{Body, opened}
-use Rattle.source_model.specs.Script.{SpawnMain, Run, transcript}
+use Rattle.run_core.specs.FirstPath.{Body, opened, SpawnMain, Run, transcript}
 use Rattle.first_text.specs.FirstScript.{IsFirstScript}
 use Rattle.world_build.specs.Worlds.{World}
 use Rattle.self_debugger.specs.Words.{Job, RunWorld, CheckWorld, RunDrill, Asks}

@@ -5,8 +5,8 @@ use Rattle.std.proofs.Common.{ap, subst, ◌∙◌, true, false}
 use Rattle.self_terms.specs.declared.values.BodyId.{BodyId}
 use Rattle.self_terms.specs.declared.bodies.Body as built_body
 use Rattle.self_terms.specs.Names.{text_of}
-use Rattle.source_model.specs.State.{Body}
-use Rattle.world_build.specs.Names.{number_from}
+use Rattle.run_core.specs.FirstPath.{Body}
+use Rattle.source_model.specs.Names.{number_from}
 use Rattle.world_build.proofs.Fronts.{drop_there}
 use Rattle.self_debugger.specs.WorldFiles.{run_body, run_body_in, body_of, body_in}
 

@@ -1,8 +1,7 @@
 -- There is one answer.
 use Rattle.std.proofs.Common.{◌≡◌, ◌⊎◌, ℕ, ◌^◌, ◌<◌, ◌≤◌, ◌∙◌, List, [], ◌∷◌, length, Bool, true, false, nat_lt, Option, None, Some, Result, Ok, Err, codes, decimal, inl, inr, refl, sym, subst, ltb-true, ltb-false}
 use Rattle.std.proofs.lemmas.Option.{same_Some}
-use Rattle.source_model.specs.State.{Body, opened}
-use Rattle.source_model.specs.Script.{SpawnMain, Run, transcript}
+use Rattle.run_core.specs.FirstPath.{Body, opened, SpawnMain, Run, transcript}
 use Rattle.first_text.specs.Meanings.{OneOrNone}
 use Rattle.first_text.specs.FirstScript.{IsFirstScript}
 use Rattle.world_build.specs.Worlds.{World}

@@ -3,12 +3,12 @@ use Rattle.std.specs.Prelude.{◌≡◌, codes}
 use Rattle.std.proofs.Common.{subst, arith}
 use Rattle.self_terms.specs.declared.bodies.Body as built_body
 use Rattle.self_tokens.specs.Tokens.{tokens}
-use Rattle.source_model.specs.State.{Body}
+use Rattle.run_core.specs.FirstPath.{Body}
 use Rattle.run_core.specs.Plain.{IsRunnable}
 use Rattle.self_reader.specs.declared.texts.TheConstants.{LIMITS}
 use Rattle.self_signs.specs.Signs.{signs, names_after}
 use Rattle.self_reader.specs.Texts.{known}
-use Rattle.world_build.specs.Names.{number_of}
+use Rattle.source_model.specs.Names.{number_of}
 use Rattle.world_build.specs.Soundness.{IsSound}
 use Rattle.world_build.specs.Worlds.{lobby_method}
 use Rattle.world_build.proofs.Runnable.{accepted_sound}

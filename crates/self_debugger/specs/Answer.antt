@@ -1,7 +1,6 @@
 -- The answer of the program: the text that it writes and its status.
 use Rattle.std.specs.Prelude.{◌≡◌, ℕ, ◌<◌, ◌≤◌, Ok, Err, List, [], ◌∷◌, length, Option, None, Some, codes}
-use Rattle.source_model.specs.State.{Body, opened}
-use Rattle.source_model.specs.Script.{SpawnMain, Run, transcript}
+use Rattle.run_core.specs.FirstPath.{Body, opened, SpawnMain, Run, transcript}
 use Rattle.first_text.specs.FirstScript.{IsFirstScript}
 use Rattle.world_build.specs.Worlds.{World}
 use Rattle.self_debugger.specs.Words.{Job, RunWorld, CheckWorld, RunDrill, Asks}

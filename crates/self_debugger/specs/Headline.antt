@@ -1,7 +1,7 @@
 -- What a whole call of the program is to write, to answer and to leave.
 use Rattle.std.specs.Prelude.{◌≡◌, ◌⊎◌, ℕ, ◌≤◌, List, Option, Some, Ok}
 use Rattle.io_ports.specs.Causes.{Takes, TakesFront}
-use Rattle.source_model.specs.State.{Body}
+use Rattle.run_core.specs.FirstPath.{Body}
 use Rattle.first_text.specs.FirstScript.{IsFirstScript}
 use Rattle.run_core.specs.declared.run_end.RunEnd.{RunEnd}
 use Rattle.run_core.specs.Ran.{Ran}

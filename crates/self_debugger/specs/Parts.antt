@@ -1,6 +1,6 @@
 -- What the calls inside the program are to do, over a world that was read. Used by contracts of private functions alone.
 use Rattle.std.specs.Prelude.{◌≡◌, ℕ, Ok, List, Option, None, Some, codes}
-use Rattle.source_model.specs.State.{Body}
+use Rattle.run_core.specs.FirstPath.{Body}
 use Rattle.run_core.specs.declared.run_end.RunEnd.{RunEnd}
 use Rattle.world_build.specs.Worlds.{World}
 use Rattle.self_debugger.specs.WorldFiles.{WorldRead, main_of}

@@ -10,9 +10,9 @@ use Rattle.self_grammar.specs.Refusal.{IsText, IsRefused}
 use Rattle.self_reader.specs.declared.texts.TheConstants.{LIMITS}
 use Rattle.self_signs.specs.Signs.{signs, names_after}
 use Rattle.self_reader.specs.Texts.{known}
-use Rattle.source_model.specs.State.{Body}
+use Rattle.run_core.specs.FirstPath.{Body}
 use Rattle.world_build.specs.declared.refusals.BuildRefusal.{BuildRefusal}
-use Rattle.world_build.specs.Names.{number_of}
+use Rattle.source_model.specs.Names.{number_of}
 use Rattle.world_build.specs.Worlds.{World, built, lobby_method}
 use Rattle.self_debugger.specs.WorldLines.{read_line, build_line}
 

@@ -1,7 +1,7 @@
 -- The lines about a world file: what it holds, or why it is refused.
 use Rattle.std.specs.Prelude.{ℕ, List, [], ◌++◌, length, codes, decimal}
 use Rattle.self_terms.specs.declared.nodes.Place.{Place}
-use Rattle.source_model.specs.Lines.{place_text}
+use Rattle.source_model.specs.Texts.{place_text}
 use Rattle.self_grammar.specs.declared.signs.ReadKind.{ReadKind}
 use Rattle.self_grammar.specs.declared.signs.ReadKind.TheVariants as kinds
 use Rattle.self_grammar.specs.declared.signs.ReadRefusal.{ReadRefusal}

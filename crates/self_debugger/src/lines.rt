@@ -1,6 +1,8 @@
 // The lines that commands write.
 ghost use Rattle.std.specs.Prelude.{◌≡◌, ◌≢◌, ◌++◌, decimal, codes, IfOk, OnOk};
-ghost use Rattle.source_model.specs.Lines.{integer_text, place_text, error_text, activity_line, stop_line, done_line, error_line};
+ghost use Rattle.run_core.specs.FirstPath.{done_line};
+ghost use Rattle.source_model.specs.Texts.{integer_text, place_text, error_text};
+ghost use Rattle.source_model.specs.Lines.{activity_line, stop_line, error_line};
 ghost use Rattle.self_terms.specs.declared.values.Value.TheVariants.{Int};
 ghost use Rattle.run_core.specs.RunText.{run_text};
 ghost use Rattle.world_build.specs.Names.{core_text};
@@ -182,6 +184,11 @@ fn put_integer(alloc: Global, line: &mut Vec<u8>, integer: i32) -> Result<(), Ou
 fn put_place(alloc: Global, line: &mut Vec<u8>, place: Place) -> Result<(), OutOfMemory>
     ensures { OnOk result (line.new.items ≡ line.old.items ++ place_text place) }
 {
+    if place.edit != 0 {
+        line.extend_from_slice(b"e")?;
+        put_number(alloc, line, place.edit as u64)?;
+        line.extend_from_slice(b"/")?;
+    }
     put_number(alloc, line, place.line as u64)?;
     line.extend_from_slice(b":")?;
     put_number(alloc, line, place.column as u64)

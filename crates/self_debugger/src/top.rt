@@ -1,10 +1,7 @@
 // The call that does all that the program does.
 ghost use Rattle.std.specs.Prelude.{◌≡◌, ◌⊎◌, ◌≤◌, ◌↔◌, List, ℕ, [], ◌∷◌, length, Ok, Some, IsSome, IsNone, IfSome, IfOk, OnOk, OnErr, IsErrOf, map, string_bytes};
 ghost use Rattle.io_ports.specs.Causes.{Rose, Takes, TakesFront};
-ghost use Rattle.source_model.specs.State.{opened};
-ghost use Rattle.source_model.specs.Script.{SpawnMain, Run, spawned, transcript};
-ghost use Rattle.source_model.specs.Step.{run};
-ghost use Rattle.source_model.specs.Lines.{run_line};
+ghost use Rattle.run_core.specs.FirstPath.{opened, SpawnMain, Run, spawned, transcript, run, run_line};
 ghost use Rattle.run_core.specs.Ran.{Ran};
 ghost use Rattle.self_debugger.specs.declared.top.Stop.TheVariants.{OutOfMemory, Write};
 ghost use Rattle.self_debugger.specs.Words.{Asks, RunWorld};

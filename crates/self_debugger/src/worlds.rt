@@ -7,7 +7,7 @@ ghost use Rattle.self_grammar.specs.Spelling.{world};
 ghost use Rattle.self_reader.specs.declared.texts.TheConstants.{LIMITS};
 ghost use Rattle.self_signs.specs.Signs.{signs, names_after};
 ghost use Rattle.self_reader.specs.Texts.{AreRead, known};
-ghost use Rattle.world_build.specs.Names.{number_of};
+ghost use Rattle.source_model.specs.Names.{number_of};
 ghost use Rattle.self_debugger.specs.WorldFiles.{WorldRead, run_body, main_of};
 
 use crate::lines::{build_line, read_line};

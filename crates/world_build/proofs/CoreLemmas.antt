@@ -4,8 +4,8 @@ use Rattle.std.specs.Prelude.{Result, Ok, Err, Some}
 use Rattle.std.specs.Borrow.{Bor}
 use Rattle.std.proofs.lemmas.Option.{slice_get-get_or}
 use Rattle.world_build.specs.declared.cores.CoreName.{CoreName}
-use Rattle.world_build.specs.declared.things.Thing.{Thing}
-use Rattle.world_build.specs.declared.things.Thing.TheVariants.{Text as string}
+use Rattle.source_model.specs.declared.objects.Thing.{Thing}
+use Rattle.source_model.specs.declared.objects.Thing.TheVariants.{Text}
 use Rattle.world_build.specs.declared.refusals.BuildRefusal.{BuildRefusal}
 use Rattle.world_build.specs.declared.loading.Loading.{Loading}
 use Rattle.world_build.specs.Worlds.{core_object, with_core, cores}
@@ -33,10 +33,10 @@ core_more s names at d xs ys o h e f =
 
 -- one string more
 pub string_more : (things new : List Thing) (texts : List (Bor (List ℕ))) (at : ℕ) (d : Bor (List ℕ))
-    → at < length texts → new ≡ things ++ string (get_or texts at d).now ∷ []
-    → new ++ map string (map (λ (t : Bor (List ℕ)). t.now) (drop (at + 1) texts)) ≡ things ++ map string (map (λ (t : Bor (List ℕ)). t.now) (drop at texts))
+    → at < length texts → new ≡ things ++ Text (get_or texts at d).now ∷ []
+    → new ++ map Text (map (λ (t : Bor (List ℕ)). t.now) (drop (at + 1) texts)) ≡ things ++ map Text (map (λ (t : Bor (List ℕ)). t.now) (drop at texts))
 string_more things new texts at d h e =
     let x = get_or texts at d in
-    ap (λ z. z ++ map string (map (λ (t : Bor (List ℕ)). t.now) (drop (at + 1) texts))) e
-    ∙ append_assoc things (string x.now ∷ []) (map string (map (λ (t : Bor (List ℕ)). t.now) (drop (at + 1) texts)))
-    ∙ ap (λ z. things ++ map string (map (λ (t : Bor (List ℕ)). t.now) z)) (sym (drop_there texts at x (slice_get-get_or texts at d h)))
+    ap (λ z. z ++ map Text (map (λ (t : Bor (List ℕ)). t.now) (drop (at + 1) texts))) e
+    ∙ append_assoc things (Text x.now ∷ []) (map Text (map (λ (t : Bor (List ℕ)). t.now) (drop (at + 1) texts)))
+    ∙ ap (λ z. things ++ map Text (map (λ (t : Bor (List ℕ)). t.now) z)) (sym (drop_there texts at x (slice_get-get_or texts at d h)))

@@ -17,3 +17,8 @@ pub mod Weights
 pub mod Spans
 pub mod DataIntegers
 pub mod SmallData
+mod ToldLemmas
+pub mod Counting
+pub mod Noting
+pub mod Following
+pub mod Naming

@@ -6,7 +6,7 @@ use Rattle.std.specs.Cmp.Lexicographic.{pointwise, same_text}
 use Rattle.std.proofs.lemmas.Bool.{cases_Bool}
 use Rattle.std.proofs.lemmas.Cmp.{nat_list_eq_equiv}
 use Rattle.self_terms.specs.Names.{text_of, with_text, HasEachOnce}
-use Rattle.world_build.specs.Names.{number_from}
+use Rattle.source_model.specs.Names.{number_from}
 use Rattle.world_build.specs.Known.{IsNumber, Knows}
 
 some_text : (s t : List ℕ) → ◌≡◌ {A = Option (List ℕ)} (Some s) (Some t) → s ≡ t

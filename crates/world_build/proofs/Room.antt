@@ -23,9 +23,9 @@ use Rattle.world_build.specs.declared.values.Open.{Open}
 use Rattle.world_build.specs.declared.values.Open.TheVariants.{InObject as in_object, InBody as in_body}
 use Rattle.world_build.specs.declared.values.Held.{Held}
 use Rattle.world_build.specs.declared.values.Held.TheVariants.{Nothing as nothing, Data as value, Code as body}
-use Rattle.world_build.specs.declared.slots.Slot.{Slot}
-use Rattle.world_build.specs.declared.things.Thing.{Thing}
-use Rattle.world_build.specs.declared.things.Thing.TheVariants.{Plain as plain, Text as string}
+use Rattle.world_build.specs.declared.slots.ToldSlot.{ToldSlot}
+use Rattle.world_build.specs.declared.things.ToldThing.{ToldThing}
+use Rattle.world_build.specs.declared.things.ToldThing.TheVariants.{Plain as plain, Text as string}
 use Rattle.world_build.specs.declared.refusals.BuildRefusal.{BuildRefusal}
 use Rattle.world_build.specs.declared.loading.Loading.{Loading}
 use Rattle.world_build.specs.declared.cores.CoreName.{CoreName}
@@ -69,15 +69,15 @@ length-change_body f (Some x) bodies at = length-set bodies at (f x)
 keeps_bodies : (f : Body → Body) (b : ℕ) (s : Loading) → Keeps s (record s { bodies = changed f s.bodies b })
 keeps_bodies f b s = record { names = refl; things = refl; bodies = length-change_body f _ s.bodies _; size = refl }
 
-length-change_thing : (x : Slot) (y : Option Thing) (things : List Thing) (o : ℕ) → length (change_thing x y things o) ≡ length things
+length-change_thing : (x : ToldSlot) (y : Option ToldThing) (things : List ToldThing) (o : ℕ) → length (change_thing x y things o) ≡ length things
 length-change_thing x None things o = refl
 length-change_thing x (Some (plain slots)) things o = length-set things o _
 length-change_thing x (Some (string t)) things o = refl
 
-keeps_slot : (o : ℕ) (x : Slot) (s : Loading) → Keeps s (at_object o x s)
+keeps_slot : (o : ℕ) (x : ToldSlot) (s : Loading) → Keeps s (at_object o x s)
 keeps_slot o x s = record { names = refl; things = length-change_thing x _ s.things o; bodies = refl; size = refl }
 
-keeps_slots : (o : ℕ) (xs : List Slot) (s : Loading) → Keeps s (add_slots o xs s)
+keeps_slots : (o : ℕ) (xs : List ToldSlot) (s : Loading) → Keeps s (add_slots o xs s)
 keeps_slots o [] s = same s
 keeps_slots o (x ∷ xs) s = keeps_both s (at_object o x s) (add_slots o xs (at_object o x s)) (keeps_slot o x s) (keeps_slots o xs (at_object o x s))
 
@@ -89,7 +89,7 @@ adds_words w s = record { names = length-with_text s.names (joined s.names (part
 -- Nodes.
 
 adds_beside : (bytes : List ℕ) (n : TextNode) (s : Loading) → Adds s (beside bytes n s)
-adds_beside bytes (text.Text i j) s = record { names = omega arith; things = omega (arith, length-append {A = Thing}); bodies = omega arith }
+adds_beside bytes (text.Text i j) s = record { names = omega arith; things = omega (arith, length-append {A = ToldThing}); bodies = omega arith }
 adds_beside bytes (text.Message to w args) s = adds_words w s
 adds_beside bytes (text.Primitive w args receiver handler) s = adds_words w s
 adds_beside bytes (text.Integer z) s = adds_none s s (same s)
@@ -145,7 +145,7 @@ within_node n bytes m s w =
     within n s (with_node bytes m s) w (record { names = a.names; things = a.things; bodies = a.bodies }) (omega arith)
 
 within_opened : (n : ℕ) (k : Bool) (s : Loading) → IsWithin n s → IsWithin (n + 1) (opened k s)
-within_opened n true s w = within n s (opened true s) w (record { names = omega arith; things = omega (arith, length-append {A = Thing}); bodies = omega arith }) (omega arith)
+within_opened n true s w = within n s (opened true s) w (record { names = omega arith; things = omega (arith, length-append {A = ToldThing}); bodies = omega arith }) (omega arith)
 within_opened n false s w = within n s (opened false s) w (record { names = omega arith; things = omega arith; bodies = omega (arith, length-append {A = Body}) }) (omega arith)
 
 within_same : (n : ℕ) (s t : Loading) → IsWithin n s → Keeps s t → IsWithin (n + 1) t
@@ -185,7 +185,7 @@ within_item n bytes (items.Opened p) rest s w = within_opened n (is_object 0 res
 within_item n bytes items.ClosedObject rest s w = within_same n s _ w (record { names = refl; things = refl; bodies = refl; size = refl })
 within_item n bytes items.ClosedBody rest s w = within_same n s _ w (record { names = refl; things = refl; bodies = refl; size = refl })
 within_item n bytes (items.Integer z) rest s w = within_same n s _ w (record { names = refl; things = refl; bodies = refl; size = refl })
-within_item n bytes (items.Text i j) rest s w = within n s _ w (record { names = omega arith; things = omega (arith, length-append {A = Thing}); bodies = omega arith }) (omega arith)
+within_item n bytes (items.Text i j) rest s w = within n s _ w (record { names = omega arith; things = omega (arith, length-append {A = ToldThing}); bodies = omega arith }) (omega arith)
 within_item n bytes (items.Root m p) rest s w = within_followed n p (root s m) s w
 within_item n bytes (items.Further m p) rest s w = within_followed n p (further s s.held m) s w
 within_item n bytes (items.Argument m) rest s w = within_argument n m s w

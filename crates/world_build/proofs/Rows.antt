@@ -3,7 +3,7 @@ use Rattle.std.specs.Prelude.{◌≡◌, ℕ, pos, Option, None, Some, Result, O
 use Rattle.self_terms.specs.declared.nodes.Node.{Node}
 use Rattle.self_terms.specs.declared.nodes.Node.TheVariants as nodes
 use Rattle.self_terms.specs.declared.nodes.Place.{Place}
-use Rattle.self_terms.specs.declared.values.Datum.TheVariants.{Object as object}
+use Rattle.self_terms.specs.declared.values.Value.TheVariants as values
 use Rattle.self_terms.specs.declared.bodies.Body.{Body}
 use Rattle.self_grammar.specs.declared.signs.Spot.{Spot}
 use Rattle.self_grammar.specs.declared.pieces.Words.TheVariants.{One, Two}
@@ -13,11 +13,12 @@ use Rattle.self_grammar.specs.declared.pieces.TextNode.TheVariants as text
 use Rattle.self_grammar.specs.declared.pieces.SlotForm.TheVariants as form
 use Rattle.self_grammar.specs.declared.pieces.Item.{Item}
 use Rattle.self_grammar.specs.declared.pieces.Item.TheVariants as items
+use Rattle.source_model.specs.declared.objects.Slot.{Slot}
+use Rattle.source_model.specs.declared.objects.Thing.{Thing}
+use Rattle.source_model.specs.declared.objects.Content.TheVariants.{Constant, Assignable, Assignment}
+use Rattle.source_model.specs.declared.objects.Thing.TheVariants.{Plain, Text}
+use Rattle.source_model.specs.declared.objects.Core.{Core}
 use Rattle.world_build.specs.declared.cores.CoreName.TheVariants as core
-use Rattle.world_build.specs.declared.slots.Content.TheVariants.{Constant as constant, Assignable as assignable, Assignment as assignment}
-use Rattle.world_build.specs.declared.slots.Slot.{Slot}
-use Rattle.world_build.specs.declared.things.Thing.{Thing}
-use Rattle.world_build.specs.declared.things.Thing.TheVariants.{Plain as plain, Text as string}
 use Rattle.world_build.specs.declared.refusals.BuildRefusal.{BuildRefusal}
 use Rattle.world_build.specs.declared.refusals.BuildRefusal.TheVariants.{NoSuchPath, ParentNotObject, MissingCore}
 use Rattle.world_build.specs.Nodes.{loaded}
@@ -115,18 +116,18 @@ nested =
     ∷ items.Slot (One 10) form.Constant (at 1) ∷ []
 
 slot : ℕ → ℕ → Slot
-slot n o = record { name = n; content = constant (object o) }
+slot n o = record { name = n; content = Constant (values.Object o) }
 
 outer_object : slice_get (things_in (built names (113 ∷ []) (core_slots ++ nested))) 8
-    ≡ Some (plain (record { name = 8; content = assignable (object 9) } ∷ record { name = 9; content = assignment } ∷ []))
+    ≡ Some (Plain (record { name = 8; content = Assignable (values.Object 9) } ∷ record { name = 9; content = Assignment } ∷ []))
 unfolding loaded names at there object_slot core_slots things_in nested slot
 outer_object = refl
 
-inner_object : slice_get (things_in (built names (113 ∷ []) (core_slots ++ nested))) 9 ≡ Some (plain (slot 11 10 ∷ slot 10 11 ∷ []))
+inner_object : slice_get (things_in (built names (113 ∷ []) (core_slots ++ nested))) 9 ≡ Some (Plain (slot 11 10 ∷ slot 10 11 ∷ []))
 unfolding loaded names at there object_slot core_slots things_in nested slot
 inner_object = refl
 
-between : slice_get (things_in (built names (113 ∷ []) (core_slots ++ nested))) 10 ≡ Some (string (113 ∷ []))
+between : slice_get (things_in (built names (113 ∷ []) (core_slots ++ nested))) 10 ≡ Some (Text (113 ∷ []))
 unfolding loaded names at there object_slot core_slots things_in nested slot
 between = refl
 
@@ -134,11 +135,11 @@ between = refl
 told_by_nil : List Item
 told_by_nil = items.Slot (One 8) (form.Bare 9) (at 1) ∷ object_slot 1 ++ items.Root 8 (at 1) ∷ items.Slot (One 2) form.Constant (at 1) ∷ []
 
-core_in : Result World BuildRefusal → List ℕ
-core_in (Err r) = []
-core_in (Ok w) = w.core
+core_in : Result World BuildRefusal → Option Core
+core_in (Err r) = None
+core_in (Ok w) = Some w.core
 
-alias : core_in (built names [] (told_by_nil ++ object_slot 3 ++ object_slot 4 ++ object_slot 5 ++ object_slot 6 ++ object_slot 7)) ≡ 1 ∷ 1 ∷ 2 ∷ 3 ∷ 4 ∷ 5 ∷ 6 ∷ []
+alias : core_in (built names [] (told_by_nil ++ object_slot 3 ++ object_slot 4 ++ object_slot 5 ++ object_slot 6 ++ object_slot 7)) ≡ Some (record { nil = 1; yes = 1; no = 2; integers = 3; strings = 4; vectors = 5; blocks = 6 })
 unfolding loaded names at there object_slot core_in told_by_nil
 alias = refl
 

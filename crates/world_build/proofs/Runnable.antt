@@ -35,7 +35,7 @@ use Rattle.world_build.specs.declared.values.Open.{Open}
 use Rattle.world_build.specs.declared.values.Open.TheVariants.{InObject as in_object, InBody as in_body}
 use Rattle.world_build.specs.declared.values.Held.{Held}
 use Rattle.world_build.specs.declared.values.Held.TheVariants.{Nothing as nothing, Data as value, Code as body}
-use Rattle.world_build.specs.declared.slots.Slot.{Slot}
+use Rattle.world_build.specs.declared.slots.ToldSlot.{ToldSlot}
 use Rattle.world_build.specs.declared.refusals.BuildRefusal.{BuildRefusal}
 use Rattle.world_build.specs.declared.refusals.BuildRefusal.TheVariants.{ParentNotObject}
 use Rattle.world_build.specs.declared.loading.Loading.{Loading}
@@ -161,7 +161,7 @@ changed_alike b f s h = record { bodies = change_same f h (slice_get s.bodies (b
 alike_then : (s t u : Loading) → Alike s t → Alike t u → Alike s u
 alike_then s t u a b = record { bodies = b.bodies ∙ a.bodies; around = b.around ∙ a.around }
 
-add_slots_alike : (o : ℕ) (xs : List Slot) (s : Loading) → Alike s (add_slots o xs s)
+add_slots_alike : (o : ℕ) (xs : List ToldSlot) (s : Loading) → Alike s (add_slots o xs s)
 add_slots_alike o [] s = record { bodies = refl; around = refl }
 add_slots_alike o (x ∷ xs) s = let h = add_slots_alike o xs (at_object o x s) in record { bodies = h.bodies; around = h.around }
 

@@ -17,14 +17,17 @@ use Rattle.self_grammar.specs.declared.pieces.SlotForm.TheVariants as form
 use Rattle.self_grammar.specs.declared.pieces.Words.{Words}
 use Rattle.self_grammar.specs.declared.pieces.Item.{Item}
 use Rattle.self_grammar.specs.declared.pieces.Item.TheVariants as items
+use Rattle.source_model.specs.declared.objects.Thing.TheVariants.{Text}
+use Rattle.source_model.specs.declared.objects.Core.{Core}
+use Rattle.world_build.specs.Telling.{core_of, thing_of}
 use Rattle.world_build.specs.declared.values.Open.{Open}
 use Rattle.world_build.specs.declared.values.Open.TheVariants.{InObject as in_object, InBody as in_body}
 use Rattle.world_build.specs.declared.values.Held.{Held}
 use Rattle.world_build.specs.declared.values.Held.TheVariants.{Nothing as nothing, Data as value, Code as body}
-use Rattle.world_build.specs.declared.slots.Content.{Content}
-use Rattle.world_build.specs.declared.slots.Slot.{Slot}
-use Rattle.world_build.specs.declared.things.Thing.{Thing}
-use Rattle.world_build.specs.declared.things.Thing.TheVariants.{Plain as plain, Text as string}
+use Rattle.world_build.specs.declared.slots.ToldContent.{ToldContent}
+use Rattle.world_build.specs.declared.slots.ToldSlot.{ToldSlot}
+use Rattle.world_build.specs.declared.things.ToldThing.{ToldThing}
+use Rattle.world_build.specs.declared.things.ToldThing.TheVariants.{Plain as plain, Text as string}
 use Rattle.world_build.specs.declared.refusals.BuildRefusal.{BuildRefusal}
 use Rattle.world_build.specs.declared.loading.Loading.{Loading}
 use Rattle.world_build.specs.Names.{core_names, with_words, word_number}
@@ -38,20 +41,20 @@ use Rattle.world_build.specs.Worlds
 use Rattle.world_build.proofs.Heavy.{node_load, load, loads}
 
 -- the weight of all objects, where each has its own
-abbrev pub weight_of : (Thing → ℕ) → List Thing → ℕ
+abbrev pub weight_of : (ToldThing → ℕ) → List ToldThing → ℕ
 weight_of m [] = 0
 weight_of m (x ∷ xs) = m x + weight_of m xs
 
 -- the weight that slots add
-abbrev pub added_by : (Content → ℕ) → List Slot → ℕ
+abbrev pub added_by : (ToldContent → ℕ) → List ToldSlot → ℕ
 added_by g [] = 0
 added_by g (x ∷ xs) = g x.content + added_by g xs
 
 -- Objects of these weights, to which slots add such weights, are no heavier than what their items ask for.
-pub record AreCarried (m : Thing → ℕ) (g : Content → ℕ) : Type 0 where
+pub record AreCarried (m : ToldThing → ℕ) (g : ToldContent → ℕ) : Type 0 where
   pub empty : m (plain []) ≤ 8
   pub text : (t : List ℕ) → m (string t) ≤ 15 + length t
-  pub more : (slots : List Slot) (x : Slot) → m (plain (slots ++ x ∷ [])) ≤ m (plain slots) + g x.content
+  pub more : (slots : List ToldSlot) (x : ToldSlot) → m (plain (slots ++ x ∷ [])) ≤ m (plain slots) + g x.content
   pub few : (n : ℕ) (f : SlotForm) (h : Held) → added_by g (slots_for n f h) ≤ 4
 
 -- Strings.
@@ -77,23 +80,23 @@ short_between bytes i j = elim (cases_Bool (nat_le i j && nat_le j (length bytes
 ]
 
 -- the object of a string between two places
-abbrev string_at : List ℕ → ℕ → ℕ → Thing
+abbrev string_at : List ℕ → ℕ → ℕ → ToldThing
 string_at bytes i j = string (unescaped_from false (between bytes i j))
 
 -- Lists of objects.
 
-weight_append : (m : Thing → ℕ) (xs ys : List Thing) → weight_of m (xs ++ ys) ≡ weight_of m xs + weight_of m ys
+weight_append : (m : ToldThing → ℕ) (xs ys : List ToldThing) → weight_of m (xs ++ ys) ≡ weight_of m xs + weight_of m ys
 weight_append m [] ys = omega arith
 weight_append m (x ∷ xs) ys = omega (arith, weight_append m xs ys)
 
-weight_set : (m : Thing → ℕ) (things : List Thing) (o : ℕ) (x y : Thing) → slice_get things o ≡ Some x → weight_of m (slice_set things o y) + m x ≡ weight_of m things + m y
+weight_set : (m : ToldThing → ℕ) (things : List ToldThing) (o : ℕ) (x y : ToldThing) → slice_get things o ≡ Some x → weight_of m (slice_set things o y) + m x ≡ weight_of m things + m y
 weight_set m [] o x y e = cc
 weight_set m (z ∷ things) zero x y e = let same : z ≡ x = cc in omega (arith, ap m same)
 weight_set m (z ∷ things) (suc o) x y e = omega (arith, weight_set m things o x y e)
 
 -- What changes no object.
 
-same_named : (h : Held) (n : ℕ) (f : SlotForm) (s : Loading) → (name_body h n f s).things ≡ s.things
+pub same_named : (h : Held) (n : ℕ) (f : SlotForm) (s : Loading) → (name_body h n f s).things ≡ s.things
 same_named nothing n f s = refl
 same_named (value v) n f s = refl
 same_named (body b) n form.Method s = refl
@@ -102,12 +105,12 @@ same_named (body b) n (form.Assignable setter) s = refl
 same_named (body b) n (form.Bare setter) s = refl
 same_named (body b) n form.Parent s = refl
 
-same_innermost : (o : Option Open) (n : Node) (p : Place) (s : Loading) → (at_innermost o n p s).things ≡ s.things
+pub same_innermost : (o : Option Open) (n : Node) (p : Place) (s : Loading) → (at_innermost o n p s).things ≡ s.things
 same_innermost None n p s = refl
 same_innermost (Some (in_object o)) n p s = refl
 same_innermost (Some (in_body b)) n p s = refl
 
-same_argument : (o : Option Open) (n : ℕ) (s : Loading) → (argument_in o n s).things ≡ s.things
+pub same_argument : (o : Option Open) (n : ℕ) (s : Loading) → (argument_in o n s).things ≡ s.things
 same_argument None n s = refl
 same_argument (Some (in_object o)) n s = refl
 same_argument (Some (in_body b)) n s = refl
@@ -122,16 +125,22 @@ ok_same s u e = cc
 world_same : (a b : World) → ◌≡◌ {A = Result World BuildRefusal} (Ok a) (Ok b) → a ≡ b
 world_same a b e = cc
 
--- what a world's items built, behind which its fixed strings stand
-pub finished_things : (r : Result Loading BuildRefusal) (w : World) → Worlds.finished r ≡ Ok w → (t : Loading) × (r ≡ Ok t) × (w.things ≡ t.things ++ map string fixed_strings)
-finished_things (Err r) w e = cc
-finished_things (Ok t) w e = (t, refl, same (Worlds.cores t core_names) e)
-  where
-    same : (c : Result (List ℕ) BuildRefusal) → Worlds.world_of t c ≡ Ok w → w.things ≡ t.things ++ map string fixed_strings
-    same (Err q) e = cc
-    same (Ok core) e = ap (λ (x : World). x.things) (sym (world_same _ w e))
+-- what a world's items built, told with its core objects, behind which its fixed strings stand
+pub record IsFinished (r : Result Loading BuildRefusal) (w : World) : Type 0 where
+  pub loading : Loading
+  pub was : r ≡ Ok loading
+  pub core : Core
+  pub things : w.things ≡ map (thing_of core) loading.things ++ map Text fixed_strings
 
-module _ (m : Thing → ℕ) (g : Content → ℕ) (k : AreCarried m g) where
+finished_so : (t : Loading) (c : Result (List ℕ) BuildRefusal) (w : World) → Worlds.world_of t c ≡ Ok w → IsFinished (Ok t) w
+finished_so t (Err q) w e = cc
+finished_so t (Ok core) w e = record { loading = t; was = refl; core = core_of core; things = ap (λ (x : World). x.things) (sym (world_same _ w e)) }
+
+pub finished_things : (r : Result Loading BuildRefusal) (w : World) → Worlds.finished r ≡ Ok w → IsFinished r w
+finished_things (Err r) w e = cc
+finished_things (Ok t) w e = finished_so t (Worlds.cores t core_names) w e
+
+module _ (m : ToldThing → ℕ) (g : ToldContent → ℕ) (k : AreCarried m g) where
   -- the weight of what was loaded
   abbrev loaded_weight : Loading → ℕ
   loaded_weight s = weight_of m s.things
@@ -141,18 +150,18 @@ module _ (m : Thing → ℕ) (g : Content → ℕ) (k : AreCarried m g) where
 
   -- Slots.
 
-  added_weight : (slots : List Slot) (x : Slot) → m (plain (add_slot slots x)) ≤ m (plain slots) + g x.content
+  added_weight : (slots : List ToldSlot) (x : ToldSlot) → m (plain (add_slot slots x)) ≤ m (plain slots) + g x.content
   added_weight slots x = elim (cases_Bool (list_any (is_named x.name) slots)) [
     | inl h ↦ rw h (omega arith)
     | inr h ↦ rw h (k.more slots x)
   ]
 
-  changed_weight : (x : Slot) (y : Option Thing) (things : List Thing) (o : ℕ) → slice_get things o ≡ y → weight_of m (change_thing x y things o) ≤ weight_of m things + g x.content
+  changed_weight : (x : ToldSlot) (y : Option ToldThing) (things : List ToldThing) (o : ℕ) → slice_get things o ≡ y → weight_of m (change_thing x y things o) ≤ weight_of m things + g x.content
   changed_weight x None things o e = omega arith
   changed_weight x (Some (plain slots)) things o e = omega (arith, weight_set m things o (plain slots) (plain (add_slot slots x)) e, added_weight slots x)
   changed_weight x (Some (string t)) things o e = omega arith
 
-  slots_weight : (o : ℕ) (xs : List Slot) (s : Loading) → loaded_weight (add_slots o xs s) ≤ loaded_weight s + added_by g xs
+  slots_weight : (o : ℕ) (xs : List ToldSlot) (s : Loading) → loaded_weight (add_slots o xs s) ≤ loaded_weight s + added_by g xs
   slots_weight o [] s = omega arith
   slots_weight o (x ∷ xs) s = omega (arith, slots_weight o xs (at_object o x s), changed_weight x (slice_get s.things o) s.things o refl)
 
@@ -231,8 +240,6 @@ module _ (m : Thing → ℕ) (g : Content → ℕ) (k : AreCarried m g) where
       let a = ok_bound (take_item bytes i is s) (λ u. Nodes.loaded bytes is u) t e in
       omega (arith, all_weight bytes is a.0 t a.2, taken_weight bytes i is s a.0 a.1)
 
-  -- A world weighs at most what its items ask for, and the lobby and the fixed strings.
-  pub built_weight : (names : List (List ℕ)) (bytes : List ℕ) (is : List Item) (w : World) → Worlds.built names bytes is ≡ Ok w → weight_of m w.things ≤ loads is + 8 + weight_of m (map string fixed_strings)
-  built_weight names bytes is w e =
-      let t = finished_things (Nodes.loaded bytes is (begun names)) w e in
-      omega (arith, all_weight bytes is (begun names) t.0 t.1, ap (weight_of m) t.2, weight_append m t.0.things (map string fixed_strings), k.empty)
+  -- What was loaded weighs at most what its items ask for, and the lobby.
+  pub told_weight : (bytes : List ℕ) (is : List Item) (names : List (List ℕ)) (t : Loading) → Nodes.loaded bytes is (begun names) ≡ Ok t → weight_of m t.things ≤ loads is + 8
+  told_weight bytes is names t e = omega (arith, all_weight bytes is (begun names) t e, k.empty)

@@ -1,7 +1,8 @@
 -- The numbers of the names that a world must have. Used by contracts of private functions alone.
 use Rattle.std.specs.Prelude.{◌≡◌, ℕ, ◌<◌, List}
 use Rattle.world_build.specs.declared.cores.CoreName.TheVariants.{Nil, True, False, IntegerTraits, StringTraits, VectorTraits, BlockTraits}
-use Rattle.world_build.specs.Names.{number_of, lobby_text, core_text}
+use Rattle.source_model.specs.Names.{number_of}
+use Rattle.world_build.specs.Names.{lobby_text, core_text}
 
 -- a text that has a name, and its number
 pub record IsNumber (names : List (List ℕ)) (text : List ℕ) (n : ℕ) : Type 0 where

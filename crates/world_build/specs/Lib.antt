@@ -6,5 +6,9 @@ pub mod Loading
 pub mod Nodes
 pub mod Soundness
 pub mod Steps
+pub mod Telling
 pub mod Worlds
 pub mod Kinds
+pub mod Numbers
+pub mod Paths
+pub mod Cores

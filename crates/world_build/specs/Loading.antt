@@ -19,13 +19,14 @@ use Rattle.world_build.specs.declared.values.Open.{Open}
 use Rattle.world_build.specs.declared.values.Open.TheVariants.{InObject as in_object, InBody as in_body}
 use Rattle.world_build.specs.declared.values.Held.{Held}
 use Rattle.world_build.specs.declared.values.Held.TheVariants.{Nothing as nothing, Data as value, Code as body}
-use Rattle.world_build.specs.declared.slots.Content.TheVariants.{Constant as constant, Assignable as assignable, Assignment as assignment, Parent as parent, Method as method}
-use Rattle.world_build.specs.declared.slots.Slot.{Slot}
-use Rattle.world_build.specs.declared.things.Thing.TheVariants.{Plain as plain, Text as string}
+use Rattle.world_build.specs.declared.slots.ToldContent.TheVariants.{Constant as constant, Assignable as assignable, Assignment as assignment, Parent as parent, Method as method}
+use Rattle.world_build.specs.declared.slots.ToldSlot.{ToldSlot}
+use Rattle.world_build.specs.declared.things.ToldThing.TheVariants.{Plain as plain, Text as string}
 use Rattle.world_build.specs.declared.refusals.BuildRefusal.{BuildRefusal}
 use Rattle.world_build.specs.declared.refusals.BuildRefusal.TheVariants.{NoSuchPath, ParentNotObject}
 use Rattle.world_build.specs.declared.loading.Loading.{Loading}
-use Rattle.world_build.specs.Names.{with_world_texts, number_of, lobby_text, core_text, with_words, word_number}
+use Rattle.source_model.specs.Names.{number_of}
+use Rattle.world_build.specs.Names.{with_world_texts, lobby_text, core_text, with_words, word_number}
 use Rattle.world_build.specs.Things.{own_data, change_thing, is_string}
 
 -- before the first item: the lobby is open, and counts as an object
@@ -130,7 +131,7 @@ with_string bytes start end s = record s { things = s.things ++ string (unescape
 -- Slots.
 
 -- the loading with one slot more in an object
-abbrev pub at_object : ℕ → Slot → Loading → Loading
+abbrev pub at_object : ℕ → ToldSlot → Loading → Loading
 at_object o x s = record s { things = change_thing x (slice_get s.things o) s.things o }
 
 -- what a slot holds that ends here
@@ -145,14 +146,14 @@ body_number (value v) = 0
 body_number (body b) = b
 
 -- an assignable slot makes its assignment slot too
-abbrev pub slots_for : ℕ → SlotForm → Held → List Slot
+abbrev pub slots_for : ℕ → SlotForm → Held → List ToldSlot
 slots_for n form.Constant h = record { name = n; content = constant (value_in h) } ∷ []
 slots_for n (form.Assignable setter) h = record { name = n; content = assignable (value_in h) } ∷ record { name = setter; content = assignment } ∷ []
 slots_for n (form.Bare setter) h = record { name = n; content = assignable nil } ∷ record { name = setter; content = assignment } ∷ []
 slots_for n form.Parent h = record { name = n; content = parent (value_in h) } ∷ []
 slots_for n form.Method h = record { name = n; content = method (body_number h) } ∷ []
 
-abbrev pub add_slots : ℕ → List Slot → Loading → Loading
+abbrev pub add_slots : ℕ → List ToldSlot → Loading → Loading
 add_slots o [] s = s
 add_slots o (x ∷ xs) s = add_slots o xs (at_object o x s)
 

@@ -1,7 +1,7 @@
 -- Names in parts, and the names that a world must have.
-use Rattle.std.specs.Prelude.{ℕ, ◌+◌, nat_eq, if◌then◌else◌, Option, None, Some, List, [], ◌∷◌, ◌++◌, codes}
-use Rattle.std.specs.Cmp.Lexicographic.{pointwise}
-use Rattle.self_terms.specs.Names.{text_of, with_text}
+use Rattle.std.specs.Prelude.{ℕ, List, [], ◌∷◌, ◌++◌, codes}
+use Rattle.self_terms.specs.Names.{with_text}
+use Rattle.source_model.specs.Names.{number_of, text_named}
 use Rattle.self_grammar.specs.declared.pieces.Words.{Words}
 use Rattle.self_grammar.specs.Parts.{parts_in}
 use Rattle.world_build.specs.declared.cores.CoreName.{CoreName}
@@ -30,22 +30,6 @@ with_core_texts names (c ∷ cs) = with_core_texts (with_text names (core_text c
 -- the names with those that a world must have
 abbrev pub with_world_texts : List (List ℕ) → List (List ℕ)
 with_world_texts names = with_core_texts (with_text names lobby_text) core_names
-
--- the number of a text in a list of texts, from 1; 0 where it isn't there
-abbrev pub number_from : ℕ → List ℕ → List (List ℕ) → ℕ
-number_from n t [] = 0
-number_from n t (x ∷ xs) = if pointwise nat_eq t x then n else number_from (n + 1) t xs
-
-abbrev pub number_of : List (List ℕ) → List ℕ → ℕ
-number_of names t = number_from 1 t names
-
--- the text of a name that was given
-abbrev pub text_or : Option (List ℕ) → List ℕ
-text_or None = []
-text_or (Some t) = t
-
-abbrev pub text_named : List (List ℕ) → ℕ → List ℕ
-text_named names n = text_or (text_of names n)
 
 -- the texts of a name's parts, one behind the other
 abbrev pub joined : List (List ℕ) → List ℕ → List ℕ

@@ -2,7 +2,8 @@
 ghost use Rattle.std.specs.Prelude.{◌≡◌, ◌++◌, ◌+◌, ◌<◌, ◌≤◌, ℕ, length, IfOk, OnOk, OnErr};
 ghost use Rattle.self_terms.specs.Names.{with_text};
 ghost use Rattle.self_grammar.specs.Parts.{parts_in};
-ghost use Rattle.world_build.specs.Names.{with_world_texts, number_of, lobby_text, core_text, text_named, joined, with_words, word_number};
+ghost use Rattle.source_model.specs.Names.{number_of, text_named};
+ghost use Rattle.world_build.specs.Names.{with_world_texts, lobby_text, core_text, joined, with_words, word_number};
 ghost use Rattle.world_build.specs.Known.{IsNumber};
 
 use crate::cores::CoreName;

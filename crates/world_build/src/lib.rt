@@ -4,12 +4,16 @@
 // (`specs/Names.antt`), slots and objects (`specs/Slots.antt`, `specs/Things.antt`) and bodies (`specs/Bodies.antt` of self_terms);
 // `specs/Worlds.antt` says what world the items of a whole text make, or why they make none. `specs/Known.antt`,
 // `specs/Kinds.antt` and `specs/Steps.antt` are for private functions alone.
-// Promise: `load` gives exactly that world or that refusal, or wants memory. An item is looked at twice.
+// Above them `specs/Numbers.antt`, `specs/Paths.antt` and `specs/Cores.antt` say in the language's own words what objects and
+// bodies are numbered by, where a path leads, and which objects are the core objects.
+// Promise: `load` gives exactly that world or that refusal, or wants memory. An item is looked at twice. What the three files
+// say holds of each world (`laws`).
 #![tactic(auto)]
 
 mod cores;
 mod items;
 mod kinds;
+mod laws;
 mod lexicon;
 mod lists;
 mod loading;
@@ -17,12 +21,15 @@ mod members;
 mod nodes;
 mod refusals;
 mod slots;
+mod telling;
 mod things;
 mod values;
 mod worlds;
 
 pub use cores::CoreName;
+pub use laws::{
+    core_objects_are_told_by_name, paths_lead_through_own_slots,
+    worlds_are_numbered_by_first_tokens,
+};
 pub use refusals::BuildRefusal;
-pub use slots::{Content, Slot, Slots};
-pub use things::{Bytes, Thing, Things};
 pub use worlds::{World, load};

@@ -9,12 +9,13 @@ use crate::cores::CoreName;
 use crate::lexicon::Lexicon;
 use crate::lists::Stack;
 use crate::refusals::BuildRefusal;
-use crate::slots::Slots;
-use crate::things::{Bytes, Thing, Things};
+use crate::slots::ToldSlots;
+use crate::things::{ToldThing, ToldThings};
 use crate::values::{Held, Open};
 use self_grammar::Spot;
 use self_terms::{Body, BodyList, Datum, Names, NodeList, Place, PlaceList, Row};
 use self_tokens::unescape;
+use source_model::Bytes;
 use std::alloc::{AllocError, Global};
 use std::mem;
 
@@ -23,7 +24,7 @@ use std::mem;
 #[derive(Drop)]
 pub(crate) struct Loading {
     pub names: Lexicon,
-    pub things: Things,
+    pub things: ToldThings,
     pub bodies: BodyList,
     pub around: Stack<Open>,
     pub held: Held,
@@ -82,7 +83,7 @@ fn string_of(alloc: Global, bytes: &[u8], start: usize, end: usize) -> Result<By
     let Ok(text) = unescape(alloc, between(bytes, start, end)) else {
         return Err(AllocError);
     };
-    Ok(Bytes::new(text))
+    Ok(Bytes::of(text))
 }
 
 impl Loading {
@@ -92,8 +93,8 @@ impl Loading {
         ensures { IfOk result (λ loading. loading ≡ begun names) }
     {
         let names = Lexicon::open(names)?;
-        let mut things = Things::open(alloc);
-        things.push(Thing::Plain(Slots::open(alloc)))?;
+        let mut things = ToldThings::open(alloc);
+        things.push(ToldThing::Plain(ToldSlots::open(alloc)))?;
         let mut around = Stack::open(alloc);
         around.push(Open::InObject(0))?;
         Ok(Loading {
@@ -171,7 +172,7 @@ impl Loading {
         ensures { OnOk result (self.new ≡ with_object self.old) }
     {
         let object = self.things.len() as u32;
-        self.things.push(Thing::Plain(Slots::open(alloc)))?;
+        self.things.push(ToldThing::Plain(ToldSlots::open(alloc)))?;
         self.around.push(Open::InObject(object))?;
         self.size += 1;
         Ok(())
@@ -222,7 +223,7 @@ impl Loading {
         ensures { OnOk result (self.new ≡ with_string bytes.now start end self.old) }
     {
         self.things
-            .push(Thing::Text(string_of(alloc, bytes, start, end)?))?;
+            .push(ToldThing::Text(string_of(alloc, bytes, start, end)?))?;
         Ok(())
     }
 }

@@ -1,13 +1,13 @@
 // The slots of objects and bodies.
 ghost use Rattle.std.specs.Prelude.{◌≡◌, ◌≢◌, ◌≤◌, IfErr, OnOk, Ok, Err};
-ghost use Rattle.world_build.specs.declared.slots.Content.TheVariants.{Assignable, Assignment};
+ghost use Rattle.world_build.specs.declared.slots.ToldContent.TheVariants.{Assignable, Assignment};
 ghost use Rattle.world_build.specs.declared.refusals.BuildRefusal.TheVariants.{OutOfMemory};
 ghost use Rattle.world_build.specs.Loading.{innermost, at_object, value_in, body_number, slots_for, add_slots, local_for, placed_in, name_body, with_slot, may_be_parent, is_parent, slot_ended, argument_in, with_argument, with_waiting};
 ghost use Rattle.world_build.specs.Steps.{HasRoom};
 
 use crate::loading::{Loading, place};
 use crate::refusals::BuildRefusal;
-use crate::slots::{Content, Slot};
+use crate::slots::{ToldContent, ToldSlot};
 use crate::values::{Held, Open};
 use self_grammar::{SlotForm, Spot, Words};
 use self_terms::{Datum, Local};
@@ -77,10 +77,10 @@ fn is_parent(form: SlotForm) -> bool
 
 impl Loading {
     // One slot more in an object.
-    fn add_slot(&mut self, object: u32, name: u32, content: Content) -> Result<(), AllocError>
+    fn add_slot(&mut self, object: u32, name: u32, content: ToldContent) -> Result<(), AllocError>
         ensures { OnOk result (self.new ≡ at_object object (record { name = name; content = content }) self.old) }
     {
-        self.things.add_slot(object, Slot { name, content })?;
+        self.things.add_slot(object, ToldSlot { name, content })?;
         Ok(())
     }
 
@@ -94,8 +94,8 @@ impl Loading {
     ) -> Result<(), AllocError>
         ensures { OnOk result (self.new ≡ at_object object (record { name = setter; content = Assignment }) (at_object object (record { name = name; content = Assignable value }) self.old)) }
     {
-        self.add_slot(object, name, Content::Assignable(value))?;
-        self.add_slot(object, setter, Content::Assignment)?;
+        self.add_slot(object, name, ToldContent::Assignable(value))?;
+        self.add_slot(object, setter, ToldContent::Assignment)?;
         Ok(())
     }
 
@@ -106,7 +106,7 @@ impl Loading {
         let value = value_in(self.held);
         match form {
             SlotForm::Constant => {
-                self.add_slot(object, name, Content::Constant(value))?;
+                self.add_slot(object, name, ToldContent::Constant(value))?;
                 Ok(())
             }
             SlotForm::Assignable { setter } => {
@@ -118,11 +118,11 @@ impl Loading {
                 Ok(())
             }
             SlotForm::Parent => {
-                self.add_slot(object, name, Content::Parent(value))?;
+                self.add_slot(object, name, ToldContent::Parent(value))?;
                 Ok(())
             }
             SlotForm::Method => {
-                self.add_slot(object, name, Content::Method(body_number(self.held)))?;
+                self.add_slot(object, name, ToldContent::Method(body_number(self.held)))?;
                 Ok(())
             }
         }

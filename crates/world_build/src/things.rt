@@ -2,67 +2,40 @@
 ghost use Rattle.std.specs.Prelude.{◌≡◌, ◌++◌, ◌∷◌, [], length, slice_get, OnOk};
 ghost use Rattle.world_build.specs.Things.{own_slot, own_data, change_thing, is_string, is_plain};
 
-use crate::slots::{Content, Slot, Slots, data_in};
+use crate::slots::{ToldContent, ToldSlot, ToldSlots, data_in};
 use self_terms::Datum;
+use source_model::Bytes;
 use std::alloc::{AllocError, Global};
 use std::marker::Model;
 
-/// The bytes of a string.
-#[derive(Drop)]
-pub struct Bytes {
-    bytes: Vec<u8>,
-}
-
-impl Model for Bytes {
-    ghost use Rattle.std.specs.Prelude.{List, ℕ};
-
-    ghost Value = { List ℕ };
-
-    ghost view = { λ b. b.bytes.items };
-}
-
-impl Bytes {
-    pub(crate) fn new(bytes: Vec<u8>) -> Bytes
-        ensures { result ≡ bytes.items }
-    {
-        Bytes { bytes }
-    }
-
-    pub fn as_slice(&self) -> &[u8]
-        ensures { result.now ≡ self.now }
-    {
-        self.bytes.as_slice()
-    }
-}
-
 /// An object with slots of its own, or a string with its bytes.
 #[derive(Drop)]
-pub enum Thing {
-    Plain(Slots),
+pub enum ToldThing {
+    Plain(ToldSlots),
     Text(Bytes),
 }
 
 /// The objects and strings by their numbers from 0.
 #[derive(Drop)]
-pub struct Things {
-    things: Vec<Thing>,
+pub struct ToldThings {
+    things: Vec<ToldThing>,
 }
 
-impl Model for Things {
+impl Model for ToldThings {
     ghost use Rattle.std.specs.Prelude.{List};
-    ghost use Rattle.world_build.specs.declared.things.Thing.{Thing};
+    ghost use Rattle.world_build.specs.declared.things.ToldThing.{ToldThing};
 
-    ghost Value = { List Thing };
+    ghost Value = { List ToldThing };
 
     ghost view = { λ t. t.things.items };
 }
 
-impl Things {
+impl ToldThings {
     /// None. Takes no memory.
-    pub(crate) fn open(alloc: Global) -> Things
+    pub(crate) fn open(alloc: Global) -> ToldThings
         ensures { result ≡ [] }
     {
-        Things {
+        ToldThings {
             things: Vec::new(alloc),
         }
     }
@@ -74,13 +47,13 @@ impl Things {
     }
 
     /// The objects and strings in the order of their numbers.
-    pub fn as_slice(&self) -> &[Thing]
+    pub fn as_slice(&self) -> &[ToldThing]
         ensures { result.now ≡ self.now }
     {
         self.things.as_slice()
     }
 
-    pub(crate) fn push(&mut self, thing: Thing) -> Result<(), AllocError>
+    pub(crate) fn push(&mut self, thing: ToldThing) -> Result<(), AllocError>
         ensures { OnOk result (self.new ≡ self.old ++ thing ∷ []) }
     {
         self.things.push(thing)?;
@@ -88,13 +61,13 @@ impl Things {
     }
 
     // What the own slot of an object holds.
-    pub(crate) fn own_slot(&self, object: u32, name: u32) -> Option<Content>
+    pub(crate) fn own_slot(&self, object: u32, name: u32) -> Option<ToldContent>
         ensures { result ≡ own_slot (slice_get self.now object) name }
     {
         match self.things.get(object as usize) {
             None => None,
-            Some(Thing::Plain(slots)) => slots.content(name),
-            Some(Thing::Text(_)) => None,
+            Some(ToldThing::Plain(slots)) => slots.content(name),
+            Some(ToldThing::Text(_)) => None,
         }
     }
 
@@ -110,8 +83,8 @@ impl Things {
     {
         match self.things.get(object as usize) {
             None => false,
-            Some(Thing::Plain(_)) => true,
-            Some(Thing::Text(_)) => false,
+            Some(ToldThing::Plain(_)) => true,
+            Some(ToldThing::Text(_)) => false,
         }
     }
 
@@ -120,13 +93,13 @@ impl Things {
     {
         match self.things.get(object as usize) {
             None => false,
-            Some(Thing::Plain(_)) => false,
-            Some(Thing::Text(_)) => true,
+            Some(ToldThing::Plain(_)) => false,
+            Some(ToldThing::Text(_)) => true,
         }
     }
 
     // One slot more in an object.
-    pub(crate) fn add_slot(&mut self, object: u32, slot: Slot) -> Result<(), AllocError>
+    pub(crate) fn add_slot(&mut self, object: u32, slot: ToldSlot) -> Result<(), AllocError>
         ensures { OnOk result (self.new ≡ change_thing slot (slice_get self.old object) self.old object) }
     {
         let at = object as usize;
@@ -134,11 +107,11 @@ impl Things {
             return Ok(());
         }
         match &mut self.things[at] {
-            Thing::Plain(slots) => {
+            ToldThing::Plain(slots) => {
                 slots.add(slot)?;
                 return Ok(());
             }
-            Thing::Text(_) => return Ok(()),
+            ToldThing::Text(_) => return Ok(()),
         }
     }
 }

@@ -1,7 +1,7 @@
 // Worlds.
 ghost use Rattle.std.specs.Prelude.{◌≡◌, ◌≢◌, ◌++◌, ◌∷◌, ◌+◌, ◌-◌, ◌<◌, ◌≤◌, [], length, map, option_map, slice_get, IfOk, IfErr, OnOk, Ok, Err, Some};
 ghost use Rattle.self_terms.specs.declared.bodies.Body.{Body};
-ghost use Rattle.world_build.specs.declared.things.Thing.TheVariants.{Text as string};
+ghost use Rattle.source_model.specs.declared.objects.Thing.TheVariants.{Text};
 ghost use Rattle.world_build.specs.declared.refusals.BuildRefusal.TheVariants.{OutOfMemory};
 ghost use Rattle.world_build.specs.Names.{core_names};
 ghost use Rattle.world_build.specs.Worlds.{fixed_strings, plain_number, core_in, core_object, cores, world_of, built, method_in, lobby_method};
@@ -12,10 +12,11 @@ use crate::items::load_items;
 use crate::kinds::kinds_of;
 use crate::loading::Loading;
 use crate::refusals::BuildRefusal;
-use crate::slots::Content;
-use crate::things::{Bytes, Thing, Things};
+use crate::slots::ToldContent;
+use crate::telling::{core_of, put_things};
 use self_grammar::Item;
 use self_terms::{Body, BodyId, BodyList, Name, Names, NodeList, PlaceList, Row};
+use source_model::{Bytes, Content, Core, Thing};
 use std::alloc::{AllocError, Global};
 use std::marker::Model;
 
@@ -54,11 +55,11 @@ const FIXED_STRINGS: [&str; 26] = [
 #[derive(Drop)]
 pub struct World {
     names: Names,
-    things: Things,
+    things: Vec<Thing>,
     objects: u32,
     bodies: BodyList,
     size: u32,
-    core: Row<u32>,
+    core: Core,
 }
 
 impl Model for World {
@@ -67,7 +68,7 @@ impl Model for World {
 
     ghost Value = { Shown };
 
-    ghost view = { λ w. record { names = w.names; things = w.things; objects = w.objects; bodies = w.bodies; size = w.size; core = w.core } };
+    ghost view = { λ w. record { names = w.names; things = w.things.items; objects = w.objects; bodies = w.bodies; size = w.size; core = w.core } };
 
     ghost invariant = { λ w. length w.bodies ≤ 450000000 };
 }
@@ -87,18 +88,18 @@ impl World {
         self.objects
     }
 
-    /// The objects and strings of the text, and behind them the fixed strings.
-    pub fn things(&self) -> &Things
+    /// The objects and strings of the text by their numbers from 0, and behind them the fixed strings.
+    pub fn things(&self) -> &[Thing]
         ensures { result.now ≡ self.now.things }
     {
-        &self.things
+        self.things.as_slice()
     }
 
-    /// The numbers of the core objects, in the order of their names.
-    pub fn core(&self) -> &[u32]
-        ensures { result.now ≡ self.now.core }
+    /// The core objects.
+    pub fn core(&self) -> Core
+        ensures { result ≡ self.now.core }
     {
-        self.core.as_slice()
+        self.core
     }
 
     /// How many bodies there are.
@@ -146,7 +147,11 @@ impl World {
     pub fn lobby_method(&self, name: Name) -> Option<BodyId>
         ensures { result ≡ lobby_method self.now name.0 }
     {
-        method_in(self.things.own_slot(0, name.0))
+        let slot = match self.things.get(0) {
+            Some(Thing::Plain(slots)) => slots.named(name.0),
+            _ => None,
+        };
+        method_in(slot.map(|slot| slot.content))
     }
 }
 
@@ -154,7 +159,7 @@ fn method_in(content: Option<Content>) -> Option<BodyId>
     ensures { result ≡ method_in content }
 {
     match content {
-        Some(Content::Method(body)) => Some(BodyId(body)),
+        Some(Content::Method(body)) => Some(body),
         _ => None,
     }
 }
@@ -174,11 +179,11 @@ impl Loading {
     }
 
     // A core object is what a constant slot of the lobby holds, where that is an object of slots.
-    fn core_in(&self, content: Option<Content>) -> Option<u32>
+    fn core_in(&self, content: Option<ToldContent>) -> Option<u32>
         ensures { result ≡ core_in self.now content }
     {
         match content {
-            Some(Content::Constant(value)) => self.plain_number(self.object_in(value)),
+            Some(ToldContent::Constant(value)) => self.plain_number(self.object_in(value)),
             _ => None,
         }
     }
@@ -205,15 +210,15 @@ impl Loading {
     }
 }
 
-fn add_string(alloc: Global, things: &mut Things, text: &str) -> Result<(), AllocError>
-    ensures { OnOk result (things.new ≡ things.old ++ string text.now ∷ []) }
+fn add_string(alloc: Global, things: &mut Vec<Thing>, text: &str) -> Result<(), AllocError>
+    ensures { OnOk result (things.new.items ≡ things.old.items ++ Text text.now ∷ []) }
 {
-    things.push(Thing::Text(Bytes::new(text.as_bytes().to_vec(alloc)?)))?;
+    things.push(Thing::Text(Bytes::of(text.as_bytes().to_vec(alloc)?)))?;
     Ok(())
 }
 
-fn add_strings(alloc: Global, things: &mut Things, texts: &[&str]) -> Result<(), AllocError>
-    ensures { OnOk result (things.new ≡ things.old ++ map string (map (λ t. t.now) texts.now)) }
+fn add_strings(alloc: Global, things: &mut Vec<Thing>, texts: &[&str]) -> Result<(), AllocError>
+    ensures { OnOk result (things.new.items ≡ things.old.items ++ map Text (map (λ t. t.now) texts.now)) }
 {
     for text in texts {
         add_string(alloc, things, text)?;
@@ -222,8 +227,8 @@ fn add_strings(alloc: Global, things: &mut Things, texts: &[&str]) -> Result<(),
 }
 
 // The strings that every world has behind those of its text.
-fn add_fixed_strings(alloc: Global, things: &mut Things) -> Result<(), AllocError>
-    ensures { OnOk result (things.new ≡ things.old ++ map string fixed_strings) }
+fn add_fixed_strings(alloc: Global, things: &mut Vec<Thing>) -> Result<(), AllocError>
+    ensures { OnOk result (things.new.items ≡ things.old.items ++ map Text fixed_strings) }
 {
     add_strings(alloc, things, &FIXED_STRINGS)?;
     Ok(())
@@ -249,14 +254,17 @@ fn close_world(alloc: Global, loading: Loading, core: Row<u32>) -> Result<World,
 {
     let Loading {
         names,
-        mut things,
+        things: told,
         bodies,
         around: _,
         held: _,
         waiting: _,
         size,
     } = loading;
-    let objects = things.len() as u32;
+    let core = core_of(core.as_slice());
+    let objects = told.len() as u32;
+    let mut things = Vec::new(alloc);
+    put_things(alloc, core, told.as_slice(), &mut things)?;
     add_fixed_strings(alloc, &mut things)?;
     Ok(World {
         names: names.into_names(),

@@ -1,14 +1,14 @@
 -- Maps, slot by slot; fields and bytes of strings, word by word.
 use Rattle.std.specs.Prelude.{◌≡◌, ℕ, suc, ◌+◌, ◌-◌, ◌*◌, ◌<◌, false, nat_eq, Option, None, Some, List, [], ◌∷◌, ◌++◌, map, take, drop, slice_get, refl}
 use Rattle.std.proofs.Common.{ap, sym, ◌∙◌, inl, inr, arith, append_assoc}
-use Rattle.std.proofs.lemmas.Bool.{cases_Bool}
+use Rattle.std.proofs.lemmas.Bool.{cases_Bool, ne_eqb, eqb-false}
 use Rattle.std.proofs.lemmas.List.{drop-drop}
 use Rattle.object_maps.specs.declared.maps.SlotKind.{SlotKind}
 use Rattle.object_maps.specs.Slots.{Slots, slot_named}
-use Rattle.world_build.specs.declared.slots.Content.{Content}
-use Rattle.world_build.specs.declared.slots.Content.TheVariants.{Constant as constant, Assignable as assignable, Assignment as assignment, Parent as parent, Method as method}
-use Rattle.world_build.specs.declared.slots.Slot.{Slot}
-use Rattle.world_build.specs.Slots.{slot_of}
+use Rattle.source_model.specs.declared.objects.Content.{Content}
+use Rattle.source_model.specs.declared.objects.Content.TheVariants.{Constant as constant, Assignable as assignable, Assignment as assignment, Parent as parent, Method as method}
+use Rattle.source_model.specs.declared.objects.Slot.{Slot}
+use Rattle.source_model.specs.Slots.{slot_named as own_named}
 use Rattle.world_build.specs.Worlds.{World}
 use Rattle.world_image.specs.Layout.{fields}
 use Rattle.world_image.specs.Kinds.{value_word, kind_of, behind, map_from}
@@ -24,31 +24,28 @@ map_more w made n slots at s e =
     append_assoc made ((s.name, kind_of w n s.content) ∷ []) (map_from w (behind n s.content) (drop (at + 1) slots))
     ∙ ap (λ xs. made ++ map_from w n xs) (sym (at_drop slots at s e))
 
-none_first : (n : ℕ) (xs : List Slot) (s : Slot) → slot_of n (xs ++ s ∷ []) ≡ None → slot_of n xs ≡ None
+none_slot : (s : Slot) → ◌≡◌ {A = Option Slot} (Some s) None → ⊥
+none_slot s e = cc
+
+none_first : (n : ℕ) (xs : List Slot) (s : Slot) → own_named n (xs ++ s ∷ []) ≡ None → own_named n xs ≡ None
 none_first n [] s e = refl
-none_first n (x ∷ xs) s e = elim (cases_Bool (nat_eq n x.name)) [
-  | inl h ↦ absurd (never x.content (rw h at e))
+none_first n (x ∷ xs) s e = elim (cases_Bool (nat_eq x.name n)) [
+  | inl h ↦ absurd (none_slot x (rw h at e))
   | inr h ↦ rw h (none_first n xs s (rw h at e))
 ]
-  where
-    never : (c : Content) → ◌≡◌ {A = Option Content} (Some c) None → ⊥
-    never c e = cc
 
-none_last : (n : ℕ) (xs : List Slot) (s : Slot) → slot_of n (xs ++ s ∷ []) ≡ None → nat_eq n s.name ≡ false
-none_last n [] s e = elim (cases_Bool (nat_eq n s.name)) [
-  | inl h ↦ absurd (never s.content (rw h at e))
-  | inr h ↦ h
+other_way : (m n : ℕ) → nat_eq m n ≡ false → nat_eq n m ≡ false
+other_way m n e = ne_eqb n m (λ p. eqb-false m n e (sym p))
+
+none_last : (n : ℕ) (xs : List Slot) (s : Slot) → own_named n (xs ++ s ∷ []) ≡ None → nat_eq n s.name ≡ false
+none_last n [] s e = elim (cases_Bool (nat_eq s.name n)) [
+  | inl h ↦ absurd (none_slot s (rw h at e))
+  | inr h ↦ other_way s.name n h
 ]
-  where
-    never : (c : Content) → ◌≡◌ {A = Option Content} (Some c) None → ⊥
-    never c e = cc
-none_last n (x ∷ xs) s e = elim (cases_Bool (nat_eq n x.name)) [
-  | inl h ↦ absurd (never x.content (rw h at e))
+none_last n (x ∷ xs) s e = elim (cases_Bool (nat_eq x.name n)) [
+  | inl h ↦ absurd (none_slot x (rw h at e))
   | inr h ↦ none_last n xs s (rw h at e)
 ]
-  where
-    never : (c : Content) → ◌≡◌ {A = Option Content} (Some c) None → ⊥
-    never c e = cc
 
 unnamed : (n : ℕ) (made : Slots) (x : ℕ × SlotKind) → slot_named n made ≡ None → nat_eq n x.0 ≡ false → slot_named n (made ++ x ∷ []) ≡ None
 unnamed n [] x e f = rw f refl
@@ -60,10 +57,10 @@ unnamed n (y ∷ made) x e f = elim (cases_Bool (nat_eq n y.0)) [
     never : (c : SlotKind) → ◌≡◌ {A = Option SlotKind} (Some c) None → ⊥
     never c e = cc
 
-pub still_new : (made : Slots) (k : SlotKind) (slots : List Slot) (at : ℕ) (s : Slot) → slice_get slots at ≡ Some s → ((n : ℕ) → slot_of n (take at slots) ≡ None → slot_named n made ≡ None) →
-    (n : ℕ) → slot_of n (take (at + 1) slots) ≡ None → slot_named n (made ++ (s.name, k) ∷ []) ≡ None
+pub still_new : (made : Slots) (k : SlotKind) (slots : List Slot) (at : ℕ) (s : Slot) → slice_get slots at ≡ Some s → ((n : ℕ) → own_named n (take at slots) ≡ None → slot_named n made ≡ None) →
+    (n : ℕ) → own_named n (take (at + 1) slots) ≡ None → slot_named n (made ++ (s.name, k) ∷ []) ≡ None
 still_new made k slots at s e new n none =
-    let front : slot_of n (take at slots ++ s ∷ []) ≡ None = ap (slot_of n) (sym (at_take slots at s e)) ∙ none in
+    let front : own_named n (take at slots ++ s ∷ []) ≡ None = ap (own_named n) (sym (at_take slots at s e)) ∙ none in
     unnamed n made (s.name, k) (new n (none_first n (take at slots) s front)) (none_last n (take at slots) s front)
 
 -- The words of an object get one field more.
@@ -72,7 +69,7 @@ field : (w : World) (c : Content) (name : ℕ) (ss : List Slot) → map (value_w
 field w (constant v) name ss = refl
 field w (assignable v) name ss = refl
 field w assignment name ss = refl
-field w (parent v) name ss = refl
+field w (parent o) name ss = refl
 field w (method b) name ss = refl
 
 pub field_more : (w : World) (made : List ℕ) (slots : List Slot) (at : ℕ) (s : Slot) → slice_get slots at ≡ Some s →

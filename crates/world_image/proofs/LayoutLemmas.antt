@@ -1,10 +1,10 @@
 -- Where objects stand.
 use Rattle.std.specs.Prelude.{◌≡◌, ℕ, zero, suc, ◌+◌, ◌-◌, ◌<◌, ◌≤◌, Some, List, [], ◌∷◌, ◌++◌, length, take, drop, slice_get, slice_index_or, refl}
 use Rattle.std.proofs.Common.{ap, sym, ◌∙◌, arith}
-use Rattle.world_build.specs.declared.slots.Content.{Content}
-use Rattle.world_build.specs.declared.slots.Content.TheVariants.{Constant as constant, Assignable as assignable, Assignment as assignment, Parent as parent, Method as method}
-use Rattle.world_build.specs.declared.slots.Slot.{Slot}
-use Rattle.world_build.specs.declared.things.Thing.{Thing}
+use Rattle.source_model.specs.declared.objects.Content.{Content}
+use Rattle.source_model.specs.declared.objects.Content.TheVariants.{Constant as constant, Assignable as assignable, Assignment as assignment, Parent as parent, Method as method}
+use Rattle.source_model.specs.declared.objects.Slot.{Slot}
+use Rattle.source_model.specs.declared.objects.Thing.{Thing}
 use Rattle.world_image.specs.Layout.{fields, span, span_of, address, reference}
 use Rattle.world_image.specs.Kinds.{behind}
 use Rattle.world_image.specs.Steps.{references_from}
@@ -14,7 +14,7 @@ counted : (n : ℕ) (c : Content) (name : ℕ) (ss : List Slot) → n + length (
 counted n (constant v) name ss = refl
 counted n (assignable v) name ss = omega arith
 counted n assignment name ss = refl
-counted n (parent v) name ss = refl
+counted n (parent o) name ss = refl
 counted n (method b) name ss = refl
 
 -- one slot more is counted
@@ -25,7 +25,7 @@ pub behind_less : (n : ℕ) (c : Content) → behind n c ≤ n + 1
 behind_less n (constant v) = omega arith
 behind_less n (assignable v) = omega arith
 behind_less n assignment = omega arith
-behind_less n (parent v) = omega arith
+behind_less n (parent o) = omega arith
 behind_less n (method b) = omega arith
 
 pub counted_all : (slots : List Slot) (at n : ℕ) → length slots ≤ at → n + length (fields (drop at slots)) ≡ n

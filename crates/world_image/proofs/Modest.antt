@@ -12,7 +12,7 @@ use Rattle.self_reader.specs.Texts.{known}
 use Rattle.world_build.specs.Worlds.{World, built}
 use Rattle.world_build.proofs.DataIntegers.{world_data}
 use Rattle.world_build.proofs.Heavy.{few_words}
-use Rattle.world_build.proofs.SmallData.{small_slots}
+use Rattle.world_build.proofs.SmallData.{small_slots, no_vectors}
 use Rattle.world_build.proofs.Spans.{built_slots}
 use Rattle.world_image.specs.Built.{IsModest}
 use Rattle.world_image.proofs.SmallSigns.{small_signs}
@@ -28,6 +28,7 @@ accepted_modest bytes t w is short made =
     let strings = text_lens_few known bytes in
     record {
       few = omega (arith, short, size, strings, words_few names bytes given w made);
+      slotted = no_vectors names bytes given w made;
       short = λ k slots at. omega (arith, short, size, strings, built_slots names bytes given w made k slots at);
       small = small_slots names bytes given w made (world_data LIMITS IsSmall (signs known bytes) t is (small_signs known bytes));
     }

@@ -3,16 +3,16 @@ use Rattle.std.specs.Prelude.{◌≡◌, ℕ, zero, suc, ◌+◌, ◌*◌, ◌/�
 use Rattle.std.proofs.Common.{ap, sym, ◌∙◌, inl, inr, arith, length-append}
 use Rattle.std.proofs.lemmas.Bool.{cases_order}
 use Rattle.std.proofs.lemmas.List.{drop-drop, drop_at, get_or-drop, get_or-append-add, length-map}
-use Rattle.self_terms.specs.declared.values.Datum.{Datum as Value}
+use Rattle.self_terms.specs.declared.values.Value.{Value}
 use Rattle.object_maps.specs.Slots.{slots_in}
-use Rattle.world_build.specs.declared.slots.Slot.{Slot}
-use Rattle.world_build.specs.declared.things.Thing.{Thing}
-use Rattle.world_build.specs.declared.things.Thing.TheVariants.{Plain as plain, Text as string}
+use Rattle.source_model.specs.declared.objects.Slot.{Slot}
+use Rattle.source_model.specs.declared.objects.Thing.{Thing}
+use Rattle.source_model.specs.declared.objects.Thing.TheVariants.{Plain as plain, Vector as vector, Text as string}
 use Rattle.world_build.specs.Worlds.{World}
 use Rattle.world_image.specs.Layout.{fields, span, span_of}
 use Rattle.world_image.specs.Kinds.{value_word, map_of}
-use Rattle.world_image.specs.Images.{Image, kin, own_maps, maps, first_word, packed_in, packed, object_words, string_words, words_from, words}
-use Rattle.world_image.specs.Stands.{plains, map_number, word, HasObject, HasString, Stands}
+use Rattle.world_image.specs.Images.{Image, kin, own_maps, maps, first_word, packed_in, packed, object_words, vector_words, string_words, words_from, words}
+use Rattle.world_image.specs.Stands.{plains, map_number, word, HasObject, HasVector, HasString, Stands}
 use Rattle.world_image.proofs.Fronts.{at_drop}
 
 -- How many words each object has.
@@ -27,10 +27,15 @@ object_length w k m slots = omega (arith, length-map (fields slots) (value_word 
 string_length : (k : ℕ) (text : List ℕ) → length (string_words k text) ≡ span (string text)
 string_length k text = omega (arith, packed_length ((length text + 3) / 4) text)
 
+vector_length : (w : World) (k : ℕ) (items : List Value) → length (vector_words w k items) ≡ span (vector items)
+vector_length w k items = omega (arith, length-map items (value_word w))
+
 all_length : (w : World) (k m : ℕ) (things : List Thing) → length (words_from w k m things) ≡ span_of things
 all_length w k m [] = refl
 all_length w k m (plain slots ∷ xs) =
     length-append (object_words w k m slots) (words_from w (k + 1) (m + 1) xs) ∙ omega (arith, object_length w k m slots, all_length w (k + 1) (m + 1) xs)
+all_length w k m (vector items ∷ xs) =
+    length-append (vector_words w k items) (words_from w (k + 1) m xs) ∙ omega (arith, vector_length w k items, all_length w (k + 1) m xs)
 all_length w k m (string text ∷ xs) =
     length-append (string_words k text) (words_from w (k + 1) m xs) ∙ omega (arith, string_length k text, all_length w (k + 1) m xs)
 
@@ -49,6 +54,10 @@ others w (plain slots ∷ xs) (suc j) k m =
     behind_one (object_words w k m slots) (words_from w (k + 1) (m + 1) xs) (span (plain slots)) (span_of (take j xs)) (object_length w k m slots)
     ∙ others w xs j (k + 1) (m + 1)
     ∙ numbers w (drop j xs) (k + 1 + j) (k + suc j) (m + 1 + plains (take j xs)) (m + (1 + plains (take j xs))) (omega arith) (omega arith)
+others w (vector items ∷ xs) (suc j) k m =
+    behind_one (vector_words w k items) (words_from w (k + 1) m xs) (span (vector items)) (span_of (take j xs)) (vector_length w k items)
+    ∙ others w xs j (k + 1) m
+    ∙ numbers w (drop j xs) (k + 1 + j) (k + suc j) (m + plains (take j xs)) (m + plains (take j xs)) (omega arith) refl
 others w (string text ∷ xs) (suc j) k m =
     behind_one (string_words k text) (words_from w (k + 1) m xs) (span (string text)) (span_of (take j xs)) (string_length k text)
     ∙ others w xs j (k + 1) m
@@ -80,26 +89,43 @@ own_at w (plain xs ∷ things) zero slots e = ap (map_of w) (same xs slots e)
   where
     same : (a b : List Slot) → ◌≡◌ {A = Option Thing} (Some (plain a)) (Some (plain b)) → a ≡ b
     same a b e = cc
+own_at w (vector items ∷ things) zero slots e = cc
 own_at w (string text ∷ things) zero slots e = cc
 own_at w (plain xs ∷ things) (suc k) slots e =
     get_or-append-add (map_of w xs ∷ []) (own_maps w things) (plains (take k things)) [] ∙ own_at w things k slots e
+own_at w (vector items ∷ things) (suc k) slots e = own_at w things k slots e
 own_at w (string text ∷ things) (suc k) slots e = own_at w things k slots e
 
 own_count : (w : World) (things : List Thing) → length (own_maps w things) ≡ plains things
 own_count w [] = refl
 own_count w (plain slots ∷ things) = omega (arith, own_count w things)
+own_count w (vector items ∷ things) = own_count w things
 own_count w (string text ∷ things) = own_count w things
 
 has_object : (w : World) (k : ℕ) (slots : List Slot) → slice_get w.things k ≡ Some (plain slots) → HasObject (image w) k slots
 has_object w k slots e = record {
   mapped = at_object w k 0 (plain slots) e;
-  described = get_or-append-add (kin w 3 ∷ kin w 4 ∷ kin w 5 ∷ []) (own_maps w w.things) (plains (take k w.things)) [] ∙ own_at w w.things k slots e;
+  described = get_or-append-add (kin w w.core.integers ∷ kin w w.core.strings ∷ kin w w.core.vectors ∷ []) (own_maps w w.things) (plains (take k w.things)) [] ∙ own_at w w.things k slots e;
   numbered = at_object w k 1 (plain slots) e;
   held = λ at v f.
       let rest : List ℕ = words_from w (k + 1) (map_number w k + 1) (drop (k + 1) w.things) in
       at_object w k (2 + at) (plain slots) e
       ∙ get_or-append-add (4 * map_number w k ∷ 4 * k ∷ []) (map (value_word w) (fields slots) ++ rest) at 0
       ∙ held_at w (fields slots) rest at v f;
+}
+
+-- Vectors.
+
+has_vector : (w : World) (k : ℕ) (items : List Value) → slice_get w.things k ≡ Some (vector items) → HasVector (image w) k items
+has_vector w k items e = record {
+  mapped = at_object w k 0 (vector items) e;
+  numbered = at_object w k 1 (vector items) e;
+  size = at_object w k 2 (vector items) e;
+  held = λ at v f.
+      let rest : List ℕ = words_from w (k + 1) (map_number w k) (drop (k + 1) w.things) in
+      at_object w k (3 + at) (vector items) e
+      ∙ get_or-append-add (8 ∷ 4 * k ∷ 4 * length items ∷ []) (map (value_word w) items ++ rest) at 0
+      ∙ held_at w items rest at v f;
 }
 
 -- Strings.
@@ -129,8 +155,10 @@ greater : (things : List Thing) (j k : ℕ) (slots : List Slot) → slice_get th
 greater [] j k slots e h = cc
 greater (x ∷ things) j zero slots e h = absurd (omega arith)
 greater (plain xs ∷ things) zero (suc k) slots e h = omega arith
+greater (vector items ∷ things) zero (suc k) slots e h = cc
 greater (string text ∷ things) zero (suc k) slots e h = cc
 greater (plain xs ∷ things) (suc j) (suc k) slots e h = omega (arith, greater things j k slots e (omega arith))
+greater (vector items ∷ things) (suc j) (suc k) slots e h = greater things j k slots e (omega arith)
 greater (string text ∷ things) (suc j) (suc k) slots e h = greater things j k slots e (omega arith)
 
 one_map : (w : World) (j k : ℕ) (xs ys : List Slot) → slice_get w.things j ≡ Some (plain xs) → slice_get w.things k ≡ Some (plain ys) → map_number w j ≡ map_number w k → j ≡ k
@@ -145,6 +173,7 @@ one_map w j k xs ys e f same = elim (cases_order j k) [
 pub stands : (w : World) → Stands (record { world = w; maps = maps w; words = words w })
 stands w = record {
   objects = has_object w;
+  vectors = has_vector w;
   strings = has_string w;
   own = one_map w;
   all = all_length w 0 3 w.things;

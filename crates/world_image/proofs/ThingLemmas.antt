@@ -2,10 +2,11 @@
 use Rattle.std.specs.Prelude.{◌≡◌, ℕ, zero, suc, ◌+◌, ◌*◌, ◌/◌, ◌<◌, ◌≤◌, Option, Some, List, [], ◌∷◌, ◌++◌, length, drop, slice_get}
 use Rattle.std.proofs.Common.{ap, sym, subst, ◌∙◌, arith, append_assoc, get_or}
 use Rattle.std.proofs.lemmas.Option.{slice_get-get_or}
+use Rattle.self_terms.specs.declared.values.Value.{Value}
 use Rattle.object_maps.specs.Slots.{Slots}
-use Rattle.world_build.specs.declared.slots.Slot.{Slot}
-use Rattle.world_build.specs.declared.things.Thing.{Thing}
-use Rattle.world_build.specs.declared.things.Thing.TheVariants.{Plain as plain, Text as string}
+use Rattle.source_model.specs.declared.objects.Slot.{Slot}
+use Rattle.source_model.specs.declared.objects.Thing.{Thing}
+use Rattle.source_model.specs.declared.objects.Thing.TheVariants.{Plain as plain, Vector as vector, Text as string}
 use Rattle.world_build.specs.Worlds.{World}
 use Rattle.world_image.specs.Layout.{span, span_of}
 use Rattle.world_image.specs.Kinds.{map_of}
@@ -24,6 +25,7 @@ slots_modest w k slots m e = record { short = m.short k slots e; small = λ i s 
 pub few_things : (things : List Thing) → 2 * length things ≤ span_of things
 few_things [] = omega arith
 few_things (plain slots ∷ xs) = omega (arith, few_things xs)
+few_things (vector items ∷ xs) = omega (arith, few_things xs)
 few_things (string text ∷ xs) = omega (arith, few_things xs)
 
 one_span : (things : List Thing) (k : ℕ) (x : Thing) → slice_get things k ≡ Some x → span x ≤ span_of things
@@ -43,7 +45,7 @@ text_short w k text m e =
 pub number_small : (w : World) (k : ℕ) → IsModest w → k < length w.things → 4 * (k + 4) < 4294967296
 number_small w k m h = omega (arith, few_things w.things, m.few)
 
--- An object of slots has a map of its own, a string none.
+-- An object of slots has a map of its own, a string and a vector none.
 
 pub own_more : (w : World) (made : List Slots) (at : ℕ) (slots : List Slot) → slice_get w.things at ≡ Some (plain slots) →
     (made ++ map_of w slots ∷ []) ++ own_maps w (drop (at + 1) w.things) ≡ made ++ own_maps w (drop at w.things)
@@ -51,6 +53,9 @@ own_more w made at slots e = append_assoc made (map_of w slots ∷ []) (own_maps
 
 pub own_same : (w : World) (made : List Slots) (at : ℕ) (text : List ℕ) → slice_get w.things at ≡ Some (string text) → made ++ own_maps w (drop (at + 1) w.things) ≡ made ++ own_maps w (drop at w.things)
 own_same w made at text e = ap (λ xs. made ++ own_maps w xs) (sym (at_drop w.things at (string text) e))
+
+pub own_without : (w : World) (made : List Slots) (at : ℕ) (items : List Value) → slice_get w.things at ≡ Some (vector items) → made ++ own_maps w (drop (at + 1) w.things) ≡ made ++ own_maps w (drop at w.things)
+own_without w made at items e = ap (λ xs. made ++ own_maps w xs) (sym (at_drop w.things at (vector items) e))
 
 -- Their words.
 

@@ -2,13 +2,13 @@
 use Rattle.std.specs.Prelude.{◌≡◌, ℕ, ◌+◌, ◌*◌, ◌≤◌, Ok, List, [], ◌∷◌, length, refl}
 use Rattle.std.specs.List.{cons_option}
 use Rattle.std.proofs.Common.{ap, arith}
-use Rattle.self_terms.specs.declared.values.Datum.{Datum as Value}
+use Rattle.self_terms.specs.declared.values.Value.{Value}
 use Rattle.self_grammar.specs.declared.pieces.Item.{Item}
-use Rattle.world_build.specs.declared.slots.Content.{Content}
-use Rattle.world_build.specs.declared.slots.Content.TheVariants.{Constant as constant, Assignable as assignable, Assignment as assignment, Parent as parent, Method as method}
-use Rattle.world_build.specs.declared.slots.Slot.{Slot}
-use Rattle.world_build.specs.declared.things.Thing.{Thing}
-use Rattle.world_build.specs.declared.things.Thing.TheVariants.{Plain as plain, Text as string}
+use Rattle.source_model.specs.declared.objects.Content.{Content}
+use Rattle.source_model.specs.declared.objects.Content.TheVariants.{Constant as constant, Assignable as assignable, Assignment as assignment, Parent as parent, Method as method}
+use Rattle.source_model.specs.declared.objects.Slot.{Slot}
+use Rattle.source_model.specs.declared.objects.Thing.{Thing}
+use Rattle.source_model.specs.declared.objects.Thing.TheVariants.{Plain as plain, Vector as vector, Text as string}
 use Rattle.world_build.specs.Worlds.{World, built}
 use Rattle.world_build.proofs.Heavy.{loads}
 use Rattle.world_build.proofs.Spans as counted
@@ -21,7 +21,7 @@ one_more : (c : Content) (vs : List Value) → length (cons_option (assignable_i
 one_more (constant v) vs = omega arith
 one_more (assignable v) vs = omega arith
 one_more assignment vs = omega arith
-one_more (parent v) vs = omega arith
+one_more (parent o) vs = omega arith
 one_more (method b) vs = omega arith
 
 same_fields : (slots : List Slot) → length (fields slots) ≡ counted.fields slots
@@ -30,6 +30,7 @@ same_fields (s ∷ slots) = omega (arith, one_more s.content (fields slots), sam
 
 same_span : (x : Thing) → span x ≡ counted.span x
 same_span (plain slots) = ap (λ n. 2 + n) (same_fields slots)
+same_span (vector items) = refl
 same_span (string text) = refl
 
 same_spans : (things : List Thing) → span_of things ≡ counted.span_of things

@@ -1,12 +1,12 @@
 -- What the code's functions give on the way. Used by contracts of private functions alone.
 use Rattle.std.specs.Prelude.{◌≡◌, ℕ, ◌+◌, ◌≤◌, ℤ, Option, None, Some, List, [], ◌∷◌, length, slice_get}
 use Rattle.self_terms.specs.Words.{IsSmall}
-use Rattle.self_terms.specs.declared.values.Datum.{Datum as Value}
-use Rattle.self_terms.specs.declared.values.Datum.TheVariants.{Integer as integer}
-use Rattle.world_build.specs.declared.slots.Content.{Content}
-use Rattle.world_build.specs.declared.slots.Slot.{Slot}
-use Rattle.world_build.specs.declared.things.Thing.{Thing}
-use Rattle.world_build.specs.Slots.{data_in}
+use Rattle.self_terms.specs.declared.values.Value.{Value}
+use Rattle.self_terms.specs.declared.values.Value.TheVariants.{Int as integer}
+use Rattle.source_model.specs.declared.objects.Content.{Content}
+use Rattle.source_model.specs.declared.objects.Slot.{Slot}
+use Rattle.source_model.specs.declared.objects.Thing.{Thing}
+use Rattle.source_model.specs.Edits.{data_in}
 use Rattle.world_build.specs.Worlds.{World}
 use Rattle.world_image.specs.Layout.{assignable_in, span, address}
 use Rattle.world_image.specs.Kinds.{value_word}
@@ -21,7 +21,7 @@ abbrev pub IsSmallValue : Value → Type 0
 IsSmallValue v = (z : ℤ) → v ≡ integer z → IsSmall z
 
 abbrev pub IsSmallContent : Content → Type 0
-IsSmallContent c = (z : ℤ) → data_in (Some c) ≡ Some (integer z) → IsSmall z
+IsSmallContent c = (z : ℤ) → data_in c ≡ Some (integer z) → IsSmall z
 
 -- the integers of slots have 30 bits, and there aren't too many slots for a map
 pub record AreModest (slots : List Slot) : Type 0 where

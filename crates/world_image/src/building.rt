@@ -77,7 +77,7 @@ pub fn image_of(alloc: Global, world: World) -> Result<WorldImage, AllocError>
     ensures maps { IfOk result (λ i. i.maps ≡ maps world) }
     ensures words { IfOk result (λ i. i.words ≡ words world) }
 {
-    let references = references(alloc, world.things().as_slice())?;
+    let references = references(alloc, world.things())?;
     let maps = maps_of(alloc, &world, references.as_slice())?;
     let words = words_of(alloc, &world, references.as_slice())?;
     Ok(WorldImage { world, maps, words })

@@ -1,37 +1,27 @@
 // The maps of objects.
 ghost use Rattle.std.specs.Prelude.{◌≡◌, ◌<◌, ◌≤◌, ◌^◌, ◌∷◌, [], IfOk};
 ghost use Rattle.object_maps.specs.declared.maps.SlotKind.TheVariants as kind;
-ghost use Rattle.world_image.specs.Kinds.{core_word, value_word, kind_of, map_of};
+ghost use Rattle.world_image.specs.Kinds.{value_word, kind_of, map_of};
 ghost use Rattle.world_image.specs.Images.{kin};
 ghost use Rattle.world_image.specs.Steps.{references_from, IsSmallValue, IsSmallContent, AreModest};
 
 use crate::layout::{behind, reference};
 use object_maps::{Map, SlotKind};
-use self_terms::{BodyId, Datum, Name, Word, word_of_int};
+use self_terms::{Name, Value, Word, word_of_int};
+use source_model::{Content, Slots};
 use std::alloc::{AllocError, Global};
-use world_build::{Content, Slots, World};
-
-// The reference to a core object, by its place among the core names.
-fn core_word(world: &World, references: &[Word], place: usize) -> Word
-    requires { references.now ≡ references_from 0 world.now.things }
-    ensures { result ≡ core_word world.now place }
-{
-    match world.core().get(place) {
-        Some(object) => reference(world, references, *object),
-        None => reference(world, references, 0),
-    }
-}
+use world_build::World;
 
 // The word of a value.
-pub fn value_word(world: &World, references: &[Word], value: Datum) -> Word
+pub fn value_word(world: &World, references: &[Word], value: Value) -> Word
     requires references { references.now ≡ references_from 0 world.now.things }
     requires small { IsSmallValue value }
     ensures { result ≡ value_word world.now value }
 {
     match value {
-        Datum::Integer(int) => word_of_int(int),
-        Datum::Object(object) => reference(world, references, object),
-        Datum::Nil => core_word(world, references, 0),
+        Value::Int(int) => word_of_int(int),
+        Value::Object(object) => reference(world, references, object),
+        Value::Block { .. } => 0,
     }
 }
 
@@ -45,8 +35,8 @@ fn kind_of(world: &World, references: &[Word], fields: u32, content: Content) ->
         Content::Constant(value) => SlotKind::Constant(value_word(world, references, value)),
         Content::Assignable(_) => SlotKind::Field(fields),
         Content::Assignment => SlotKind::Assign(fields.saturating_sub(1)),
-        Content::Parent(value) => SlotKind::Parent(value_word(world, references, value)),
-        Content::Method(body) => SlotKind::Method(BodyId(body)),
+        Content::Parent(object) => SlotKind::Parent(reference(world, references, object)),
+        Content::Method(body) => SlotKind::Method(body),
     }
 }
 
@@ -74,12 +64,12 @@ pub fn map_of(
     Ok(map)
 }
 
-// The map of those whose parent is the core object at this place among the core names.
+// The map of those whose parent is the object of this number.
 pub fn kin(
     alloc: Global,
     world: &World,
     references: &[Word],
-    traits: usize,
+    traits: u32,
 ) -> Result<Map, AllocError>
     requires { references.now ≡ references_from 0 world.now.things }
     ensures { IfOk result (λ map. map ≡ kin world.now traits) }
@@ -87,7 +77,7 @@ pub fn kin(
     let mut map = Map::open(alloc);
     map.add(
         Name(0),
-        SlotKind::Parent(core_word(world, references, traits)),
+        SlotKind::Parent(reference(world, references, traits)),
     )?;
     Ok(map)
 }

@@ -5,8 +5,9 @@ ghost use Rattle.world_image.specs.Kinds.{behind};
 ghost use Rattle.world_image.specs.Steps.{references_from};
 
 use self_terms::Word;
+use source_model::{Content, Slots, Thing};
 use std::alloc::{AllocError, Global};
-use world_build::{Content, Slots, Thing, World};
+use world_build::World;
 
 /// The first address of the heap.
 pub const HEAP: u32 = 0x2000_0000;
@@ -46,6 +47,7 @@ fn span(thing: &Thing) -> u32
 {
     match thing {
         Thing::Plain(slots) => 2 + field_count(slots),
+        Thing::Vector(items) => 3 + items.as_slice().len() as u32,
         Thing::Text(text) => 3 + (text.as_slice().len() as u32 + 3) / 4,
     }
 }

@@ -10,8 +10,9 @@ use crate::kinds::{kin, map_of, value_word};
 use crate::packing::put_bytes;
 use object_maps::Maps;
 use self_terms::Word;
+use source_model::{Content, Slots, Thing};
 use std::alloc::{AllocError, Global};
-use world_build::{Content, Slots, Thing, World};
+use world_build::World;
 
 // The maps of a world.
 pub fn maps_of(alloc: Global, world: &World, references: &[Word]) -> Result<Maps, AllocError>
@@ -20,12 +21,14 @@ pub fn maps_of(alloc: Global, world: &World, references: &[Word]) -> Result<Maps
     ensures { IfOk result (λ m. m ≡ maps world.now) }
 {
     let mut maps = Maps::open(alloc)?;
-    maps.add(kin(alloc, world, references, 3)?)?;
-    maps.add(kin(alloc, world, references, 4)?)?;
-    maps.add(kin(alloc, world, references, 5)?)?;
-    for thing in world.things().as_slice() {
-        if let Thing::Plain(slots) = thing {
-            maps.add(map_of(alloc, world, references, slots)?)?;
+    maps.add(kin(alloc, world, references, world.core().integers)?)?;
+    maps.add(kin(alloc, world, references, world.core().strings)?)?;
+    maps.add(kin(alloc, world, references, world.core().vectors)?)?;
+    for thing in world.things() {
+        match thing {
+            Thing::Plain(slots) => maps.add(map_of(alloc, world, references, slots)?)?,
+            Thing::Vector(_) => {}
+            Thing::Text(_) => {}
         }
     }
     Ok(maps)
@@ -111,12 +114,13 @@ pub fn words_of(alloc: Global, world: &World, references: &[Word]) -> Result<Vec
     let mut words = Vec::new(alloc);
     let mut number = 0;
     let mut map = 3;
-    for thing in world.things().as_slice() {
+    for thing in world.things() {
         match thing {
             Thing::Plain(slots) => {
                 put_object(world, references, number, map, slots, &mut words)?;
                 map += 1;
             }
+            Thing::Vector(_) => unreachable!(),
             Thing::Text(text) => put_string(number, text.as_slice(), &mut words)?,
         }
         number += 1;

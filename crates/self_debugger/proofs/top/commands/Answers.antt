@@ -1,9 +1,7 @@
 use Rattle.std.proofs.Common.{◌∙◌, [], ◌++◌}
 use Rattle.std.proofs.lemmas.Result.{err_from_is_err_and}
-use Rattle.source_model.specs.Lines.{activity_line, run_line}
-use Rattle.source_model.specs.State.{opened}
-use Rattle.source_model.specs.Script.{spawned}
-use Rattle.source_model.specs.Step.{run}
+use Rattle.run_core.specs.FirstPath.{run_line, opened, spawned, run}
+use Rattle.source_model.specs.Lines.{activity_line}
 use Rattle.self_debugger.specs.WorldFiles.{run_body}
 use Rattle.self_debugger.proofs.Taking.{front_of_line, front_of_lines, takes_lines}
 use Rattle.self_debugger.proofs.top.commands.Goals as goal

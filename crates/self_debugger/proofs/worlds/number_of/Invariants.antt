@@ -1,5 +1,5 @@
 use Rattle.std.proofs.Common.{◌≡◌, ◌+◌, drop}
-use Rattle.world_build.specs.Names.{number_from, number_of}
+use Rattle.source_model.specs.Names.{number_from, number_of}
 use Rattle.self_debugger.proofs.worlds.number_of.Given as goal
 
 -- the number of the text in what is left is its number
