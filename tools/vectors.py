@@ -7,8 +7,8 @@ the files are missing it says so and ends with success.
 
 encode.txt has lines TEXT<TAB>WORD: the assembler text and its word. The text has to give the word, and
 the word the text. accept.txt has lines WORD<TAB>in|out<TAB>..: whether the table has the word.
-steps.txt has lines NUMBER<TAB>KIND<TAB>PC<TAB>BEFORE<TAB>CODE<TAB>STEPS<TAB>AFTER: what a machine has
-before so many steps, and what after them. The kinds whose windows spill into memory are left out.
+steps.txt has lines NUMBER<TAB>KIND<TAB>PC<TAB>BEFORE<TAB>CODE<TAB>STEPS<TAB>AFTER: what a machine with one
+frame has before so many steps, and what after them, the words of spilled windows among it.
 """
 import pathlib
 import re
@@ -18,7 +18,6 @@ import sys
 TOP = pathlib.Path(__file__).resolve().parent.parent
 PROGRAM = TOP / "crates" / "vector_check"
 FILES = ("encode.txt", "accept.txt", "steps.txt")
-LEFT_OUT = ("windows", "recursion", "window-sequence")
 
 
 def rows(path):
@@ -32,12 +31,13 @@ def register(name):
 
 def state(text):
     """The special registers, the registers by number and the words by address of a text such as
-    `y=0 o1=5 m20000000=1,2`; `?` stands for a word that is left open."""
+    `y=0 o1=5 m20000000=1,2 s41000000=?,3`, in which `s` marks words that a window was spilled to; `?` stands
+    for a word that is left open."""
     special, registers, words = {}, {}, {}
     for key, value in (part.split("=") for part in text.split()):
         if re.fullmatch("[goli][0-7]", key):
             registers[register(key)] = value
-        elif key[0] == "m":
+        elif key[0] in "ms":
             for place, word in enumerate(value.split(",")):
                 words[int(key[1:], 16) + 4 * place] = word
         else:
@@ -83,11 +83,8 @@ def cases(folder):
         yield f"decode {word}", f"in {text}", str.__eq__
     for word, verdict, *_ in rows(folder / "accept.txt"):
         yield f"decode {word}", verdict, lambda answer, want: answer.split(" ")[0] == want
-    for _, kind, *case in rows(folder / "steps.txt"):
-        if kind in LEFT_OUT:
-            yield None
-        else:
-            yield *step_case(*case), agrees
+    for _, _, *case in rows(folder / "steps.txt"):
+        yield *step_case(*case), agrees
 
 
 def answers(lines):
@@ -107,8 +104,7 @@ def main():
     if not all((folder / name).is_file() for name in FILES):
         print(f"no vectors in {folder}: skipped")
         return 0
-    everything = list(cases(folder))
-    wanted = [case for case in everything if case]
+    wanted = list(cases(folder))
     given = answers(line for line, _, _ in wanted)
     if len(given) != len(wanted):
         print(f"{len(wanted)} lines, but {len(given)} answers")
@@ -118,7 +114,7 @@ def main():
         if not passes(answer, want):
             failed += 1
             print(f"{line}: {answer}, and not {want}")
-    print(f"{len(wanted) - failed} passed, {failed} failed, {len(everything) - len(wanted)} skipped")
+    print(f"{len(wanted) - failed} passed, {failed} failed")
     return 1 if failed else 0
 
 

@@ -1,6 +1,6 @@
 // What the host does to a machine: it spawns an activity, and does the services at traps.
-ghost use Rattle.std.specs.Prelude.{◌≡◌, ◌<◌, ◌^◌, length, IfOk};
-ghost use Rattle.sparc_machine.specs.Held.{flat};
+ghost use Rattle.std.specs.Prelude.{◌≡◌, ◌<◌, ◌^◌, [], IfOk};
+ghost use Rattle.sparc_machine.specs.Held.{state};
 ghost use Rattle.run_core.specs.Emitted.{CanEmit};
 ghost use Rattle.run_core.specs.Hosted.{Hosted, serviced, HoldsOnlyCode, laid, Spawned};
 
@@ -38,8 +38,8 @@ fn loaded(alloc: Global, nodes: &NodeList) -> Result<Memory, OutOfMemory>
 
 // Lays the frame of entry and below it that of the first activation, at the service of the first node's poll.
 fn lay_frames(machine: &mut Machine)
-    requires { length (flat machine.old).older < 4097 }
-    ensures { flat machine.new ≡ laid (flat machine.old) }
+    requires { (state machine.old).older ≡ [] }
+    ensures { state machine.new ≡ laid (state machine.old) }
 {
     machine.set(14, ENTRY_FRAME);
     machine.enter_frame();
@@ -53,12 +53,10 @@ fn lay_frames(machine: &mut Machine)
 /// A machine with one activity, whose first activation is of this body. No word of it has run.
 pub fn spawned(alloc: Global, nodes: &NodeList) -> Result<Machine, OutOfMemory>
     requires { CanEmit nodes.now }
-    ensures { IfOk result (λ m. Spawned nodes.now (record { machine = flat m; steps = 0 })) }
+    ensures { IfOk result (λ m. Spawned nodes.now (record { machine = state m; steps = 0 })) }
 {
     let memory = loaded(alloc, nodes)?;
-    let Ok(mut machine) = Machine::open(alloc, memory) else {
-        return Err(AllocError);
-    };
+    let mut machine = Machine::open(memory);
     lay_frames(&mut machine);
     Ok(machine)
 }
@@ -67,7 +65,7 @@ pub fn spawned(alloc: Global, nodes: &NodeList) -> Result<Machine, OutOfMemory>
 /// left.
 pub fn serve(machine: &mut Machine, steps: u64, left: u32) -> u64
     requires { steps < 2 ^ 62 }
-    ensures { let before : Hosted = record { machine = flat machine.old; steps = steps } in let after : Hosted = record { machine = flat machine.new; steps = result } in after ≡ serviced left before }
+    ensures { let before : Hosted = record { machine = state machine.old; steps = steps } in let after : Hosted = record { machine = state machine.new; steps = result } in after ≡ serviced left before }
 {
     let steps = steps + machine.get(2) as u64;
     machine.set(2, 0);

@@ -7,6 +7,13 @@
 
 mod memory;
 mod out_of_memory;
+mod stacks;
+mod windows;
 
 pub use memory::Memory;
 pub use out_of_memory::OutOfMemory;
+pub use stacks::{
+    answers_as_flat, flushes, has_one_depth, restores, saves, spares_others, stacks_may, takes_up,
+    writes,
+};
+pub use windows::Windows;

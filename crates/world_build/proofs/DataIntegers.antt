@@ -23,50 +23,41 @@ use Rattle.self_grammar.specs.Spelling.{items_of}
 use Rattle.self_grammar.specs.Refusal.{signs, IsText}
 use Rattle.self_grammar.proofs.Places.{block_opening}
 use Rattle.self_grammar.proofs.SlotMoves as v'
+use Rattle.world_build.specs.Wholeness.{IsDatum, AreData}
 use Rattle.world_build.proofs.Heavy.{out_ready}
 
--- P holds of the integer that a datum is,
-abbrev pub OfDatum : (ℤ → Type 0) → Item → Type 0
-OfDatum P (items.Integer z) = P z
-OfDatum P _ = Unit {0}
-
--- and of those of all data.
-abbrev pub OfData : (ℤ → Type 0) → List Item → Type 0
-OfData P [] = Unit {0}
-OfData P (i ∷ is) = OfDatum P i × OfData P is
-
-data_append : (P : ℤ → Type 0) (is js : List Item) → OfData P is → OfData P js → OfData P (is ++ js)
+data_append : (P : ℤ → Type 0) (is js : List Item) → AreData P is → AreData P js → AreData P (is ++ js)
 data_append P [] js h k = k
 data_append P (i ∷ is) js h k = (h.0, data_append P is js h.1 k)
 
 -- No node is a datum,
-nodes_data : (P : ℤ → Type 0) (ms : List Made) → OfData P (map items.Node ms)
+nodes_data : (P : ℤ → Type 0) (ms : List Made) → AreData P (map items.Node ms)
 nodes_data P [] = tt
 nodes_data P (m ∷ ms) = (tt, nodes_data P ms)
 
 -- and no slot.
-local_data : (P : ℤ → Type 0) (x : g.Local) → OfData P (s.local_items x)
+local_data : (P : ℤ → Type 0) (x : g.Local) → AreData P (s.local_items x)
 local_data P (g.local_argument w) = tt
 local_data P (g.local_bare w) = (tt, tt)
 local_data P (g.local_assignable w a d) = (tt, tt)
 local_data P (g.local_constant w e d) = (tt, tt)
 
-method_data : (P : ℤ → Type 0) (m : g.MethodSlot) → OfData P (s.method_items m)
+method_data : (P : ℤ → Type 0) (m : g.MethodSlot) → AreData P (s.method_items m)
 method_data P (g.method h e m) = (tt, tt)
 
-member_data : (P : ℤ → Type 0) (m : g.Member) → OfData P (s.member_items m)
+member_data : (P : ℤ → Type 0) (m : g.Member) → AreData P (s.member_items m)
 member_data P (g.constant w e d) = (tt, tt)
 member_data P (g.assignable w a d) = (tt, tt)
 member_data P (g.bare w) = (tt, tt)
 member_data P (g.parent w x e d) = (tt, tt)
 member_data P (g.coded m) = method_data P m
 
-slot_data : (P : ℤ → Type 0) (x : g.Slot) → OfData P (s.slot_items x)
+slot_data : (P : ℤ → Type 0) (x : g.Slot) → AreData P (s.slot_items x)
 slot_data P (g.member m) = member_data P m
 slot_data P (g.argument w) = tt
 
 -- the items of a sign
-data_at : (P : ℤ → Type 0) (c : Context) (e : Event) → OfData P c.ready → OfData P e.says → OfData P (items_at c e)
+data_at : (P : ℤ → Type 0) (c : Context) (e : Event) → AreData P c.ready → AreData P e.says → AreData P (items_at c e)
 data_at P c e h k =
     data_append P (c.ready ++ map items.Node (c.due ++ e.made)) e.says (data_append P c.ready (map items.Node (c.due ++ e.made)) h (nodes_data P (c.due ++ e.made))) k
 
@@ -79,21 +70,21 @@ one x = (tt, tt)
 
 -- What holds of the integers of the signs of these marks holds of those of their data.
 pub record Follows (P : ℤ → Type 0) (ms : List Mark) : Type 0 where
-  pub data_of : OfSigns P (signs ms) → OfData P (items_of ms)
+  pub data_of : OfSigns P (signs ms) → AreData P (items_of ms)
 
 module _ (l : Limits) (P : ℤ → Type 0) where
   -- It holds of what follows, where the slots that aren't said yet are no data.
   abbrev Tells : Writer → Type 0
-  Tells k = (c : Context) → OfData P c.ready → Follows P (k c)
+  Tells k = (c : Context) → AreData P c.ready → Follows P (k c)
 
-  sign : (x : Symbol) (p : Spot) (e : Event) (k : Writer) → (OfSymbol P x → OfData P e.says) → Tells k → Tells (write l x p e k)
+  sign : (x : Symbol) (p : Spot) (e : Event) (k : Writer) → (OfSymbol P x → AreData P e.says) → Tells k → Tells (write l x p e k)
   sign x p e k says tells c ready =
       let calm : (moved c e).ready ≡ [] = out_ready e.leaves c.around (counted c e) in
-      let rest = (tells (moved c e) (subst (λ is. OfData P is) (sym calm) tt)).data_of in
+      let rest = (tells (moved c e) (subst (λ is. AreData P is) (sym calm) tt)).data_of in
       record { data_of = λ o. data_append P (items_at c e) (items_of (k (moved c e))) (data_at P c e ready (says o.0)) (rest o.1) }
 
   -- What is said between signs.
-  placing_tells : (is : List Item) (k : Writer) → OfData P is → Tells k → Tells (placing is k)
+  placing_tells : (is : List Item) (k : Writer) → AreData P is → Tells k → Tells (placing is k)
   placing_tells is k slots tells c ready = tells (record c { ready = c.ready ++ is }) (data_append P c.ready is ready slots)
 
   owing_tells : (o : Made) (k : Writer) → Tells k → Tells (owing o k)
@@ -316,5 +307,5 @@ module _ (l : Limits) (P : ℤ → Type 0) where
       (scope holder) (s.at_first 1) tt
 
 -- What holds of the integers of a world's signs holds of those of its data.
-pub world_data : (l : Limits) (P : ℤ → Type 0) (given : List Sign) (w : g.World) → IsText (s.world l) given w → OfSigns P given → OfData P (items_of (s.world l w))
+pub world_data : (l : Limits) (P : ℤ → Type 0) (given : List Sign) (w : g.World) → IsText (s.world l) given w → OfSigns P given → AreData P (items_of (s.world l w))
 world_data l P given w h of = (world_tells l P w).data_of (subst (λ ss. OfSigns P ss) (sym h.0) of)

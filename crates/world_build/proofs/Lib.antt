@@ -22,3 +22,8 @@ pub mod Counting
 pub mod Noting
 pub mod Following
 pub mod Naming
+pub mod SetterNames
+pub mod Numbers
+pub mod Growth
+pub mod Loaded
+pub mod Whole

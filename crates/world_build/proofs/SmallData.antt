@@ -45,7 +45,7 @@ use Rattle.world_build.specs.Nodes.{beside, at_innermost, node_of, with_node, ta
 use Rattle.world_build.specs.Nodes
 use Rattle.world_build.specs.Worlds.{World, fixed_strings}
 use Rattle.world_build.specs.Worlds
-use Rattle.world_build.proofs.DataIntegers.{OfDatum, OfData}
+use Rattle.world_build.specs.Wholeness.{IsDatum, AreData}
 use Rattle.world_build.proofs.Weights.{finished_things, ok_bound, ok_same}
 
 -- the integer that a value is
@@ -248,7 +248,7 @@ argument_small None n s h = h
 argument_small (Some (in_object o)) n s h = h
 argument_small (Some (in_body b)) n s h = record { things = h.things; held = h.held }
 
-item_small : (bytes : List ℕ) (i : Item) (rest : List Item) (s : Loading) → Small s → OfDatum IsSmall i → Stays (take_item bytes i rest s)
+item_small : (bytes : List ℕ) (i : Item) (rest : List Item) (s : Loading) → Small s → IsDatum IsSmall i → Stays (take_item bytes i rest s)
 unfolding Stays
 item_small bytes (items.Node m) rest s h d = node_small bytes m s h
 item_small bytes (items.Opened p) rest s h d = opened_small (is_object 0 rest) s h
@@ -262,11 +262,11 @@ item_small bytes (items.Argument n) rest s h d = let k = argument_small (innermo
 item_small bytes (items.Named n) rest s h d = record { things = h.things; held = h.held }
 item_small bytes (items.Slot w f p) rest s h d = ended_small w f p s h
 
-taken_small : (bytes : List ℕ) (i : Item) (rest : List Item) (s t : Loading) → Small s → OfDatum IsSmall i → take_item bytes i rest s ≡ Ok t → Small t
+taken_small : (bytes : List ℕ) (i : Item) (rest : List Item) (s t : Loading) → Small s → IsDatum IsSmall i → take_item bytes i rest s ≡ Ok t → Small t
 unfolding Stays
 taken_small bytes i rest s t h d e = rw e at (item_small bytes i rest s h d)
 
-loaded_small : (bytes : List ℕ) (is : List Item) (s t : Loading) → Small s → OfData IsSmall is → Nodes.loaded bytes is s ≡ Ok t → Small t
+loaded_small : (bytes : List ℕ) (is : List Item) (s t : Loading) → Small s → AreData IsSmall is → Nodes.loaded bytes is s ≡ Ok t → Small t
 unfolding Nodes.loaded
 loaded_small bytes [] s t h d e = subst (λ (u : Loading). Small u) (ok_same s t e) h
 loaded_small bytes (i ∷ is) s t h d e =
@@ -331,7 +331,7 @@ no_vectors names bytes is w e k items at =
     never_vector t.core t.loading.things fixed_strings k items (ap (λ xs. slice_get xs k) (sym t.things) ∙ at)
 
 -- Each integer that a slot of an object holds has 30 bits.
-pub small_slots : (names : List (List ℕ)) (bytes : List ℕ) (is : List Item) (w : World) → Worlds.built names bytes is ≡ Ok w → OfData IsSmall is →
+pub small_slots : (names : List (List ℕ)) (bytes : List ℕ) (is : List Item) (w : World) → Worlds.built names bytes is ≡ Ok w → AreData IsSmall is →
     (k : ℕ) (slots : List Slot) (i : ℕ) (s : Slot) (z : ℤ) → slice_get w.things k ≡ Some (Plain slots) → slice_get slots i ≡ Some s → told_data s.content ≡ Some (values.Int z) → IsSmall z
 small_slots names bytes is w e d k slots i s z at there held =
     let t = finished_things (Nodes.loaded bytes is (begun names)) w e in

@@ -12,3 +12,4 @@ pub mod Kinds
 pub mod Numbers
 pub mod Paths
 pub mod Cores
+pub mod Wholeness

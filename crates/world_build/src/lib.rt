@@ -24,6 +24,7 @@ mod slots;
 mod telling;
 mod things;
 mod values;
+mod wholeness;
 mod worlds;
 
 pub use cores::CoreName;
@@ -32,4 +33,5 @@ pub use laws::{
     worlds_are_numbered_by_first_tokens,
 };
 pub use refusals::BuildRefusal;
+pub use wholeness::worlds_are_whole;
 pub use worlds::{World, load};

@@ -1,0 +1,93 @@
+// The worlds of the rows may begin a session, and the scripts keep it well formed.
+ghost use Rattle.std.specs.Prelude.{◌≡◌, ◌&&◌, true};
+ghost use Rattle.source_model.specs.Testing.{can_begin, command_fits, each_passes};
+ghost use Rattle.source_rows.specs.Worlds.{s_r1, w_r1, s_r2, w_r2, s_r4a, w_r4a, s_r4b, w_r4b, s_r5, w_r5, s_r6a, w_r6a, s_r6b, w_r6b, s_r6c, w_r6c, s_r7, w_r7, s_r8a, w_r8a, s_r8b, w_r8b, s_r9, w_r9, s_r13, w_r13, s_r16, w_r16, s_r17a, w_r17a, s_r17b, w_r17b, s_r17c, w_r17c, s_r18, w_r18, s_r22, w_r22, s_nodes1, w_nodes1, s_nodes2, w_nodes2, s_nodes3, w_nodes3, s_nodes4, w_nodes4, s_nonlocal, w_nonlocal, s_value_int, w_value_int, s_setters, w_setters, s_diamond_set, w_diamond_set, s_cycle, w_cycle, s_clone_own, w_clone_own, s_assign_answer, w_assign_answer, s_prims1, w_prims1, s_prims2, w_prims2, s_prims3, w_prims3, s_vectors, w_vectors, s_strings, w_strings, s_undefined1, w_undefined1, s_undefined2, w_undefined2, s_wrong_args, w_wrong_args, s_h_clone, w_h_clone, s_h_vector, w_h_vector, s_h_vector2, w_h_vector2, s_h_vector3, w_h_vector3, s_h_at, w_h_at, s_h_at2, w_h_at2, s_h_at3, w_h_at3, s_h_at4, w_h_at4, s_h_put, w_h_put, s_h_put2, w_h_put2, s_h_div, w_h_div, s_h_mod, w_h_mod, s_h_type, w_h_type, s_h_type2, w_h_type2, s_h_mul, w_h_mul, s_h_sub, w_h_sub, s_h_eq, w_h_eq, s_h_size, w_h_size, s_h_print, w_h_print, s_h_print2, w_h_print2, s_h_seven, w_h_seven, s_h_slot, w_h_slot, s_h_one_arg, w_h_one_arg, s_h_nonlifo, w_h_nonlifo, s_implied_prim, w_implied_prim, s_if_fail_alone, w_if_fail_alone, s_args5, w_args5, s_args_wrong, w_args_wrong, s_block_slot, w_block_slot, s_block_shown, w_block_shown, s_block_other, w_block_other, s_restart, w_restart, s_restart_block, w_restart_block, s_overflow, w_overflow, s_storefull_vec, w_storefull_vec, s_storefull_block, w_storefull_block, s_storefull_block2, w_storefull_block2, s_storefull_spawn, w_storefull_spawn, s_storefull_clone, w_storefull_clone, s_storefull_enter, w_storefull_enter, s_commands, w_commands, s_interrupt, w_interrupt, s_finish, w_finish, s_edits, w_edits, s_edit_size, w_edit_size, s_r10, w_r10, s_r12, w_r12};
+
+/// With each of the worlds a session may begin, and each command of its script keeps the session well formed.
+pub fn sessions_are_formed()
+    ensures r1 { (can_begin w_r1 && each_passes (command_fits w_r1.names) s_r1) ≡ true }
+    ensures r2 { (can_begin w_r2 && each_passes (command_fits w_r2.names) s_r2) ≡ true }
+    ensures r4a { (can_begin w_r4a && each_passes (command_fits w_r4a.names) s_r4a) ≡ true }
+    ensures r4b { (can_begin w_r4b && each_passes (command_fits w_r4b.names) s_r4b) ≡ true }
+    ensures r5 { (can_begin w_r5 && each_passes (command_fits w_r5.names) s_r5) ≡ true }
+    ensures r6a { (can_begin w_r6a && each_passes (command_fits w_r6a.names) s_r6a) ≡ true }
+    ensures r6b { (can_begin w_r6b && each_passes (command_fits w_r6b.names) s_r6b) ≡ true }
+    ensures r6c { (can_begin w_r6c && each_passes (command_fits w_r6c.names) s_r6c) ≡ true }
+    ensures r7 { (can_begin w_r7 && each_passes (command_fits w_r7.names) s_r7) ≡ true }
+    ensures r8a { (can_begin w_r8a && each_passes (command_fits w_r8a.names) s_r8a) ≡ true }
+    ensures r8b { (can_begin w_r8b && each_passes (command_fits w_r8b.names) s_r8b) ≡ true }
+    ensures r9 { (can_begin w_r9 && each_passes (command_fits w_r9.names) s_r9) ≡ true }
+    ensures r13 { (can_begin w_r13 && each_passes (command_fits w_r13.names) s_r13) ≡ true }
+    ensures r16 { (can_begin w_r16 && each_passes (command_fits w_r16.names) s_r16) ≡ true }
+    ensures r17a { (can_begin w_r17a && each_passes (command_fits w_r17a.names) s_r17a) ≡ true }
+    ensures r17b { (can_begin w_r17b && each_passes (command_fits w_r17b.names) s_r17b) ≡ true }
+    ensures r17c { (can_begin w_r17c && each_passes (command_fits w_r17c.names) s_r17c) ≡ true }
+    ensures r18 { (can_begin w_r18 && each_passes (command_fits w_r18.names) s_r18) ≡ true }
+    ensures r22 { (can_begin w_r22 && each_passes (command_fits w_r22.names) s_r22) ≡ true }
+    ensures nodes1 { (can_begin w_nodes1 && each_passes (command_fits w_nodes1.names) s_nodes1) ≡ true }
+    ensures nodes2 { (can_begin w_nodes2 && each_passes (command_fits w_nodes2.names) s_nodes2) ≡ true }
+    ensures nodes3 { (can_begin w_nodes3 && each_passes (command_fits w_nodes3.names) s_nodes3) ≡ true }
+    ensures nodes4 { (can_begin w_nodes4 && each_passes (command_fits w_nodes4.names) s_nodes4) ≡ true }
+    ensures nonlocal { (can_begin w_nonlocal && each_passes (command_fits w_nonlocal.names) s_nonlocal) ≡ true }
+    ensures value_int { (can_begin w_value_int && each_passes (command_fits w_value_int.names) s_value_int) ≡ true }
+    ensures setters { (can_begin w_setters && each_passes (command_fits w_setters.names) s_setters) ≡ true }
+    ensures diamond_set { (can_begin w_diamond_set && each_passes (command_fits w_diamond_set.names) s_diamond_set) ≡ true }
+    ensures cycle { (can_begin w_cycle && each_passes (command_fits w_cycle.names) s_cycle) ≡ true }
+    ensures clone_own { (can_begin w_clone_own && each_passes (command_fits w_clone_own.names) s_clone_own) ≡ true }
+    ensures assign_answer { (can_begin w_assign_answer && each_passes (command_fits w_assign_answer.names) s_assign_answer) ≡ true }
+    ensures prims1 { (can_begin w_prims1 && each_passes (command_fits w_prims1.names) s_prims1) ≡ true }
+    ensures prims2 { (can_begin w_prims2 && each_passes (command_fits w_prims2.names) s_prims2) ≡ true }
+    ensures prims3 { (can_begin w_prims3 && each_passes (command_fits w_prims3.names) s_prims3) ≡ true }
+    ensures vectors { (can_begin w_vectors && each_passes (command_fits w_vectors.names) s_vectors) ≡ true }
+    ensures strings { (can_begin w_strings && each_passes (command_fits w_strings.names) s_strings) ≡ true }
+    ensures undefined1 { (can_begin w_undefined1 && each_passes (command_fits w_undefined1.names) s_undefined1) ≡ true }
+    ensures undefined2 { (can_begin w_undefined2 && each_passes (command_fits w_undefined2.names) s_undefined2) ≡ true }
+    ensures wrong_args { (can_begin w_wrong_args && each_passes (command_fits w_wrong_args.names) s_wrong_args) ≡ true }
+    ensures h_clone { (can_begin w_h_clone && each_passes (command_fits w_h_clone.names) s_h_clone) ≡ true }
+    ensures h_vector { (can_begin w_h_vector && each_passes (command_fits w_h_vector.names) s_h_vector) ≡ true }
+    ensures h_vector2 { (can_begin w_h_vector2 && each_passes (command_fits w_h_vector2.names) s_h_vector2) ≡ true }
+    ensures h_vector3 { (can_begin w_h_vector3 && each_passes (command_fits w_h_vector3.names) s_h_vector3) ≡ true }
+    ensures h_at { (can_begin w_h_at && each_passes (command_fits w_h_at.names) s_h_at) ≡ true }
+    ensures h_at2 { (can_begin w_h_at2 && each_passes (command_fits w_h_at2.names) s_h_at2) ≡ true }
+    ensures h_at3 { (can_begin w_h_at3 && each_passes (command_fits w_h_at3.names) s_h_at3) ≡ true }
+    ensures h_at4 { (can_begin w_h_at4 && each_passes (command_fits w_h_at4.names) s_h_at4) ≡ true }
+    ensures h_put { (can_begin w_h_put && each_passes (command_fits w_h_put.names) s_h_put) ≡ true }
+    ensures h_put2 { (can_begin w_h_put2 && each_passes (command_fits w_h_put2.names) s_h_put2) ≡ true }
+    ensures h_div { (can_begin w_h_div && each_passes (command_fits w_h_div.names) s_h_div) ≡ true }
+    ensures h_mod { (can_begin w_h_mod && each_passes (command_fits w_h_mod.names) s_h_mod) ≡ true }
+    ensures h_type { (can_begin w_h_type && each_passes (command_fits w_h_type.names) s_h_type) ≡ true }
+    ensures h_type2 { (can_begin w_h_type2 && each_passes (command_fits w_h_type2.names) s_h_type2) ≡ true }
+    ensures h_mul { (can_begin w_h_mul && each_passes (command_fits w_h_mul.names) s_h_mul) ≡ true }
+    ensures h_sub { (can_begin w_h_sub && each_passes (command_fits w_h_sub.names) s_h_sub) ≡ true }
+    ensures h_eq { (can_begin w_h_eq && each_passes (command_fits w_h_eq.names) s_h_eq) ≡ true }
+    ensures h_size { (can_begin w_h_size && each_passes (command_fits w_h_size.names) s_h_size) ≡ true }
+    ensures h_print { (can_begin w_h_print && each_passes (command_fits w_h_print.names) s_h_print) ≡ true }
+    ensures h_print2 { (can_begin w_h_print2 && each_passes (command_fits w_h_print2.names) s_h_print2) ≡ true }
+    ensures h_seven { (can_begin w_h_seven && each_passes (command_fits w_h_seven.names) s_h_seven) ≡ true }
+    ensures h_slot { (can_begin w_h_slot && each_passes (command_fits w_h_slot.names) s_h_slot) ≡ true }
+    ensures h_one_arg { (can_begin w_h_one_arg && each_passes (command_fits w_h_one_arg.names) s_h_one_arg) ≡ true }
+    ensures h_nonlifo { (can_begin w_h_nonlifo && each_passes (command_fits w_h_nonlifo.names) s_h_nonlifo) ≡ true }
+    ensures implied_prim { (can_begin w_implied_prim && each_passes (command_fits w_implied_prim.names) s_implied_prim) ≡ true }
+    ensures if_fail_alone { (can_begin w_if_fail_alone && each_passes (command_fits w_if_fail_alone.names) s_if_fail_alone) ≡ true }
+    ensures args5 { (can_begin w_args5 && each_passes (command_fits w_args5.names) s_args5) ≡ true }
+    ensures args_wrong { (can_begin w_args_wrong && each_passes (command_fits w_args_wrong.names) s_args_wrong) ≡ true }
+    ensures block_slot { (can_begin w_block_slot && each_passes (command_fits w_block_slot.names) s_block_slot) ≡ true }
+    ensures block_shown { (can_begin w_block_shown && each_passes (command_fits w_block_shown.names) s_block_shown) ≡ true }
+    ensures block_other { (can_begin w_block_other && each_passes (command_fits w_block_other.names) s_block_other) ≡ true }
+    ensures restart { (can_begin w_restart && each_passes (command_fits w_restart.names) s_restart) ≡ true }
+    ensures restart_block { (can_begin w_restart_block && each_passes (command_fits w_restart_block.names) s_restart_block) ≡ true }
+    ensures overflow { (can_begin w_overflow && each_passes (command_fits w_overflow.names) s_overflow) ≡ true }
+    ensures storefull_vec { (can_begin w_storefull_vec && each_passes (command_fits w_storefull_vec.names) s_storefull_vec) ≡ true }
+    ensures storefull_block { (can_begin w_storefull_block && each_passes (command_fits w_storefull_block.names) s_storefull_block) ≡ true }
+    ensures storefull_block2 { (can_begin w_storefull_block2 && each_passes (command_fits w_storefull_block2.names) s_storefull_block2) ≡ true }
+    ensures storefull_spawn { (can_begin w_storefull_spawn && each_passes (command_fits w_storefull_spawn.names) s_storefull_spawn) ≡ true }
+    ensures storefull_clone { (can_begin w_storefull_clone && each_passes (command_fits w_storefull_clone.names) s_storefull_clone) ≡ true }
+    ensures storefull_enter { (can_begin w_storefull_enter && each_passes (command_fits w_storefull_enter.names) s_storefull_enter) ≡ true }
+    ensures commands { (can_begin w_commands && each_passes (command_fits w_commands.names) s_commands) ≡ true }
+    ensures interrupt { (can_begin w_interrupt && each_passes (command_fits w_interrupt.names) s_interrupt) ≡ true }
+    ensures finish { (can_begin w_finish && each_passes (command_fits w_finish.names) s_finish) ≡ true }
+    ensures edits { (can_begin w_edits && each_passes (command_fits w_edits.names) s_edits) ≡ true }
+    ensures edit_size { (can_begin w_edit_size && each_passes (command_fits w_edit_size.names) s_edit_size) ≡ true }
+    ensures r10 { (can_begin w_r10 && each_passes (command_fits w_r10.names) s_r10) ≡ true }
+    ensures r12 { (can_begin w_r12 && each_passes (command_fits w_r12.names) s_r12) ≡ true }
+{}

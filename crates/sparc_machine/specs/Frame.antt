@@ -1,0 +1,10 @@
+-- Words of a stack that a machine lends to be written.
+use Rattle.std.specs.Prelude.{ℕ, List}
+use Rattle.std.specs.Borrow.{Lends, MutBor, Fml, Array, u32 as word}
+use Rattle.sparc_store.specs.Words.{with_frame}
+use Rattle.sparc_machine.specs.contracts.machine.Machine.{the_row}
+use Rattle.sparc_machine.specs.Held.{Held}
+
+-- what is written in the lent words is in the machine's memory at the address, and the machine is as it was but for that
+abbrev pub LendsFrame : MutBor Held → ℕ → MutBor (List ℕ) → Fml
+LendsFrame m at r = Lends the_row (Array word 0) m r (λ ws. record m.now { memory = with_frame m.now.memory at ws })
