@@ -18,6 +18,10 @@ pub mod Spans
 pub mod DataIntegers
 pub mod SmallData
 mod ToldLemmas
+pub mod Counting
+pub mod Noting
+pub mod Following
+pub mod Naming
 pub mod SetterNames
 pub mod Numbers
 pub mod Growth

@@ -96,7 +96,7 @@ weight_set m (z ∷ things) (suc o) x y e = omega (arith, weight_set m things o 
 
 -- What changes no object.
 
-same_named : (h : Held) (n : ℕ) (f : SlotForm) (s : Loading) → (name_body h n f s).things ≡ s.things
+pub same_named : (h : Held) (n : ℕ) (f : SlotForm) (s : Loading) → (name_body h n f s).things ≡ s.things
 same_named nothing n f s = refl
 same_named (value v) n f s = refl
 same_named (body b) n form.Method s = refl
@@ -105,12 +105,12 @@ same_named (body b) n (form.Assignable setter) s = refl
 same_named (body b) n (form.Bare setter) s = refl
 same_named (body b) n form.Parent s = refl
 
-same_innermost : (o : Option Open) (n : Node) (p : Place) (s : Loading) → (at_innermost o n p s).things ≡ s.things
+pub same_innermost : (o : Option Open) (n : Node) (p : Place) (s : Loading) → (at_innermost o n p s).things ≡ s.things
 same_innermost None n p s = refl
 same_innermost (Some (in_object o)) n p s = refl
 same_innermost (Some (in_body b)) n p s = refl
 
-same_argument : (o : Option Open) (n : ℕ) (s : Loading) → (argument_in o n s).things ≡ s.things
+pub same_argument : (o : Option Open) (n : ℕ) (s : Loading) → (argument_in o n s).things ≡ s.things
 same_argument None n s = refl
 same_argument (Some (in_object o)) n s = refl
 same_argument (Some (in_body b)) n s = refl

@@ -9,6 +9,9 @@ pub mod Steps
 pub mod Telling
 pub mod Worlds
 pub mod Kinds
+pub mod Numbers
+pub mod Paths
+pub mod Cores
 pub mod Wholeness
 pub mod SlotTexts
 pub mod SlotTextRow
