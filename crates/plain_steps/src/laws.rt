@@ -1,0 +1,16 @@
+// Laws of plain code against the source.
+ghost use Rattle.std.specs.Prelude.{ℕ, ℤ, ◌<◌, length};
+ghost use Rattle.self_terms.specs.Words.{IsSmall};
+ghost use Rattle.self_terms.specs.declared.nodes.Node.TheVariants as nodes;
+ghost use Rattle.plain_steps.specs.Steps.{Always, WordsAnswer, WordsDo};
+
+/// A law: the words of a node do the source's step.
+pub fn words_do_steps()
+    ensures int { (i : ℤ) → IsSmall i → WordsDo (nodes.Int i) Always }
+    ensures string { (o : ℕ) → WordsDo (nodes.Str o) (λ s. o < length s.things) }
+    ensures nil { WordsDo nodes.Nil Always }
+    ensures receiver { WordsDo nodes.SelfRef Always }
+    ensures discard { WordsDo nodes.Drop Always }
+    ensures answer { WordsAnswer nodes.Return }
+    ensures end { WordsAnswer nodes.End }
+{}
