@@ -67,7 +67,7 @@ can_return h b o r can deep =
     }
 
 -- a body without block literals has no context
-no_context : (z : Sense) (a : Activation) (f : Frame) (kind : Made) → has_context kind ≡ false → HasLocals z a f kind → kind ≡ without
+pub no_context : (z : Sense) (a : Activation) (f : Frame) (kind : Made) → has_context kind ≡ false → HasLocals z a f kind → kind ≡ without
 no_context z a f without e h = refl
 no_context z a f Ended e h = absurd h
 no_context z a f (Live o) e h = absurd (cc)
@@ -80,7 +80,7 @@ any_same : (xs : List Node) → list_any by_source xs ≡ list_any by_words xs
 any_same [] = refl
 any_same (x ∷ xs) = ap (λ q. q || list_any by_source xs) (literal_same x) ∙ ap (λ q. by_words x || q) (any_same xs)
 
-wants_none : (h : Host) (s : State) (b y : ℕ) → h.bodies ≡ s.bodies → b ≡ y → owns_context (body_in h.bodies b) ≡ false → makes_blocks s y ≡ false
+pub wants_none : (h : Host) (s : State) (b y : ℕ) → h.bodies ≡ s.bodies → b ≡ y → owns_context (body_in h.bodies b) ≡ false → makes_blocks s y ≡ false
 wants_none h s b y e same none =
     any_same (body_in s.bodies y).nodes ∙ ap (λ k. owns_context (body_in s.bodies k)) (sym same) ∙ ap (λ bs. owns_context (body_in bs b)) (sym e) ∙ none
 

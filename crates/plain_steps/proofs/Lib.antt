@@ -1,3 +1,5 @@
 pub mod Here
 pub mod Words
 pub mod Answering
+pub mod Reading
+pub mod Restarting

@@ -51,7 +51,7 @@ meets_step z h s b n next now f raw =
     }
 
 -- a node that pends a word
-pends : (z : Sense) (h : Host) (s : State) (b n : ℕ) (node : Node) (word : ℕ) → (r : RunsAt h b n node) → CanGo h → is_inner node ≡ true → ((k : ℕ) → grown node k ≡ k + 1)
+pub pends : (z : Sense) (h : Host) (s : State) (b n : ℕ) (node : Node) (word : ℕ) → (r : RunsAt h b n node) → CanGo h → is_inner node ≡ true → ((k : ℕ) → grown node k ≡ k + 1)
     → Does h.machine h.machine.pc (code_at h b n node) (pended h.machine (frame_locals (body_in h.bodies b)) (depth_from 0 (body_in h.bodies b).nodes n) word)
     → (let f = viewed h.machine b n (frame_locals (body_in h.bodies b)) (depth (body_in h.bodies b).nodes n) in RawFollows z (becomes (raw_of h) (Going (moved_on (word ∷ f.pending) f ∷ callers_of h r.view.older))) (step s) [])
     → DoesStep z h s

@@ -1,13 +1,14 @@
 -- The words of plain code do the source's step.
 use Rattle.std.specs.Prelude.{◌≡◌, ℕ, suc, ◌<◌, false, List, [], length, Some, slice_get}
 use Rattle.self_terms.specs.declared.nodes.Node.{Node}
+use Rattle.self_terms.specs.declared.nodes.Node.TheVariants as nodes
 use Rattle.sparc_machine.specs.State.{MachineState}
 use Rattle.source_model.specs.State.{State}
 use Rattle.source_model.specs.Soundness.{body_in}
 use Rattle.source_model.specs.Step.{step}
 use Rattle.raw_steps.specs.Stands.{Sense, Stands}
 use Rattle.plain_words.specs.Going.{Goes}
-use Rattle.plain_words.specs.Units.{object_word, owns_context}
+use Rattle.plain_words.specs.Units.{object_word, owns_context, frame_locals}
 use Rattle.plain_runs.specs.Host.{Host, raw_of}
 use Rattle.plain_runs.specs.Sound.{IsHosted, RunsAt}
 use Rattle.plain_runs.specs.Course.{with_machine, CanGo}
@@ -44,3 +45,7 @@ Always s = Unit {0}
 -- a node that ends an activation, which has no context and isn't the oldest of its activity
 abbrev pub WordsAnswer : Node → Type 0
 WordsAnswer node = (z : Sense) (h : Host) (s : State) (b n o : ℕ) → StandsFor z h s → (r : RunsAt h b n node) → CanGo h → owns_context (body_in h.bodies b) ≡ false → r.view.older ≡ suc o → DoesStep z h s
+
+-- a node that reads an own local which its frame keeps
+abbrev pub WordsRead : ℕ → Type 0
+WordsRead slot = (z : Sense) (h : Host) (s : State) (b n : ℕ) → StandsFor z h s → RunsAt h b n (nodes.Read 0 slot) → CanGo h → owns_context (body_in h.bodies b) ≡ false → slot < frame_locals (body_in h.bodies b) → DoesStep z h s

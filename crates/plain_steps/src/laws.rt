@@ -2,7 +2,7 @@
 ghost use Rattle.std.specs.Prelude.{ℕ, ℤ, ◌<◌, length};
 ghost use Rattle.self_terms.specs.Words.{IsSmall};
 ghost use Rattle.self_terms.specs.declared.nodes.Node.TheVariants as nodes;
-ghost use Rattle.plain_steps.specs.Steps.{Always, WordsAnswer, WordsDo};
+ghost use Rattle.plain_steps.specs.Steps.{Always, WordsAnswer, WordsDo, WordsRead};
 
 /// A law: the words of a node do the source's step.
 pub fn words_do_steps()
@@ -11,6 +11,8 @@ pub fn words_do_steps()
     ensures nil { WordsDo nodes.Nil Always }
     ensures receiver { WordsDo nodes.SelfRef Always }
     ensures discard { WordsDo nodes.Drop Always }
+    ensures restart { WordsDo nodes.Restart Always }
+    ensures read { (slot : ℕ) → WordsRead slot }
     ensures answer { WordsAnswer nodes.Return }
     ensures end { WordsAnswer nodes.End }
 {}

@@ -1,5 +1,7 @@
 use Rattle.plain_steps.proofs.Words.{self_steps, int_steps, string_steps, nil_steps, drop_steps}
 use Rattle.plain_steps.proofs.Answering.{return_steps, end_steps}
+use Rattle.plain_steps.proofs.Reading.{read_steps}
+use Rattle.plain_steps.proofs.Restarting.{restart_steps}
 use Rattle.plain_steps.proofs.laws.words_do_steps.Goals as goal
 
 pub returns-clause-int : goal.returns-clause-int
@@ -22,3 +24,9 @@ returns-clause-answer c = return_steps
 
 pub returns-clause-end : goal.returns-clause-end
 returns-clause-end c = end_steps
+
+pub returns-clause-restart : goal.returns-clause-restart
+returns-clause-restart c = restart_steps
+
+pub returns-clause-read : goal.returns-clause-read
+returns-clause-read c = read_steps
