@@ -88,11 +88,11 @@ youngest_pending : (cells : Cells) (p : Places) (vs : List Value) (w : ℕ) (ws 
 youngest_pending cells p [] w ws h = absurd h
 youngest_pending cells p (v ∷ vs) w ws h = omega arith
 
-some_pending : (cells : Cells) (p : Places) (vs : List Value) (m : MachineState) (b n locals k j : ℕ) → k ≡ suc j → AreValues cells p vs (viewed m b n locals k).pending → 0 < length vs
+pub some_pending : (cells : Cells) (p : Places) (vs : List Value) (m : MachineState) (b n locals k j : ℕ) → k ≡ suc j → AreValues cells p vs (viewed m b n locals k).pending → 0 < length vs
 some_pending cells p vs m b n locals k j e h =
     (let P : ℕ → Type 0 = λ z. AreValues cells p vs (viewed m b n locals z).pending → 0 < length vs in subst P (sym e) (λ x. youngest_pending cells p vs _ _ x)) h
 
-youngest_is : (m : MachineState) (b n locals k j : ℕ) → k ≡ suc j → get_or (viewed m b n locals k).pending 0 0 ≡ word_at m.memory (m.regs 14 + pending_offset locals j)
+pub youngest_is : (m : MachineState) (b n locals k j : ℕ) → k ≡ suc j → get_or (viewed m b n locals k).pending 0 0 ≡ word_at m.memory (m.regs 14 + pending_offset locals j)
 youngest_is m b n locals k j e = ap (λ z. get_or (viewed m b n locals z).pending 0 0) e
 
 answer_steps : (node : Node) → (node ≡ nodes.End) ⊎ (node ≡ nodes.Return) → ((h : Host) (b n : ℕ) → code_at h b n node ≡ return_code (owns_context (body_in h.bodies b)) (frame_locals (body_in h.bodies b)) (depth_from 0 (body_in h.bodies b).nodes n - 1))

@@ -3,3 +3,5 @@ pub mod Words
 pub mod Answering
 pub mod Reading
 pub mod Restarting
+pub mod Storing
+pub mod Ending

@@ -28,7 +28,7 @@ pub depth_is : (nodes : List Node) (n : ℕ) → depth nodes n ≡ depth_from 0 
 unfolding depth
 depth_is nodes n = refl
 
-depth_more : (nodes : List Node) (n : ℕ) (node : Node) → slice_get nodes n ≡ Some node → depth nodes (n + 1) ≡ grown node (depth nodes n)
+pub depth_more : (nodes : List Node) (n : ℕ) (node : Node) → slice_get nodes n ≡ Some node → depth nodes (n + 1) ≡ grown node (depth nodes n)
 unfolding depth
 depth_more nodes n node e = ap (depth_from 0 nodes) (omega arith) ∙ depth_after nodes n 0 node e
 

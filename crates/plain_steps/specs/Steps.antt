@@ -1,5 +1,5 @@
 -- The words of plain code do the source's step.
-use Rattle.std.specs.Prelude.{◌≡◌, ℕ, suc, ◌<◌, false, List, [], length, Some, slice_get}
+use Rattle.std.specs.Prelude.{◌≡◌, ℕ, suc, ◌<◌, false, List, [], length, Some, slice_get, slice_set}
 use Rattle.self_terms.specs.declared.nodes.Node.{Node}
 use Rattle.self_terms.specs.declared.nodes.Node.TheVariants as nodes
 use Rattle.sparc_machine.specs.State.{MachineState}
@@ -7,9 +7,9 @@ use Rattle.source_model.specs.State.{State}
 use Rattle.source_model.specs.Soundness.{body_in}
 use Rattle.source_model.specs.Step.{step}
 use Rattle.raw_steps.specs.Stands.{Sense, Stands}
-use Rattle.plain_words.specs.Going.{Goes}
+use Rattle.plain_words.specs.Going.{Goes, IsTrap}
 use Rattle.plain_words.specs.Units.{object_word, owns_context, frame_locals}
-use Rattle.plain_runs.specs.Host.{Host, raw_of}
+use Rattle.plain_runs.specs.Host.{Host, Answered, raw_of}
 use Rattle.plain_runs.specs.Sound.{IsHosted, RunsAt}
 use Rattle.plain_runs.specs.Course.{with_machine, CanGo}
 
@@ -49,3 +49,25 @@ WordsAnswer node = (z : Sense) (h : Host) (s : State) (b n o : ℕ) → StandsFo
 -- a node that reads an own local which its frame keeps
 abbrev pub WordsRead : ℕ → Type 0
 WordsRead slot = (z : Sense) (h : Host) (s : State) (b n : ℕ) → StandsFor z h s → RunsAt h b n (nodes.Read 0 slot) → CanGo h → owns_context (body_in h.bodies b) ≡ false → slot < frame_locals (body_in h.bodies b) → DoesStep z h s
+
+-- a node that stores in an own local which its frame keeps
+abbrev pub WordsStore : ℕ → Type 0
+WordsStore slot = (z : Sense) (h : Host) (s : State) (b n : ℕ) → StandsFor z h s → RunsAt h b n (nodes.Store 0 slot) → CanGo h → owns_context (body_in h.bodies b) ≡ false → slot < frame_locals (body_in h.bodies b) → DoesStep z h s
+
+-- the host after service 9, where the machine stands at its trap with an answer in %o0: the current activity has ended with that
+abbrev pub ended : Host → MachineState → Host
+ended h m = record h { machine = m; statuses = slice_set h.statuses h.current (Answered (m.regs 8)) }
+
+-- So many instructions lead to service 9, after which machine and host stand for the state after the step.
+pub record EndsActivity (z : Sense) (h : Host) (s : State) : Type 0 where
+  pub instructions : ℕ
+  pub to : MachineState
+  pub goes : Goes instructions h.machine to
+  pub trap : IsTrap 9 to
+  pub sense : Sense
+  pub stands : Stands sense (raw_of (ended h to)) (step s).state
+  pub silent : (step s).out ≡ []
+
+-- a node that ends the oldest activation of an activity, which has no context
+abbrev pub WordsEnd : Node → Type 0
+WordsEnd node = (z : Sense) (h : Host) (s : State) (b n : ℕ) → StandsFor z h s → (r : RunsAt h b n node) → CanGo h → owns_context (body_in h.bodies b) ≡ false → r.view.older ≡ 0 → EndsActivity z h s

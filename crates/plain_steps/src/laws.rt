@@ -2,7 +2,7 @@
 ghost use Rattle.std.specs.Prelude.{ℕ, ℤ, ◌<◌, length};
 ghost use Rattle.self_terms.specs.Words.{IsSmall};
 ghost use Rattle.self_terms.specs.declared.nodes.Node.TheVariants as nodes;
-ghost use Rattle.plain_steps.specs.Steps.{Always, WordsAnswer, WordsDo, WordsRead};
+ghost use Rattle.plain_steps.specs.Steps.{Always, WordsAnswer, WordsDo, WordsRead, WordsStore};
 
 /// A law: the words of a node do the source's step.
 pub fn words_do_steps()
@@ -13,6 +13,7 @@ pub fn words_do_steps()
     ensures discard { WordsDo nodes.Drop Always }
     ensures restart { WordsDo nodes.Restart Always }
     ensures read { (slot : ℕ) → WordsRead slot }
+    ensures store { (slot : ℕ) → WordsStore slot }
     ensures answer { WordsAnswer nodes.Return }
     ensures end { WordsAnswer nodes.End }
 {}

@@ -2,6 +2,7 @@ use Rattle.plain_steps.proofs.Words.{self_steps, int_steps, string_steps, nil_st
 use Rattle.plain_steps.proofs.Answering.{return_steps, end_steps}
 use Rattle.plain_steps.proofs.Reading.{read_steps}
 use Rattle.plain_steps.proofs.Restarting.{restart_steps}
+use Rattle.plain_steps.proofs.Storing.{store_steps}
 use Rattle.plain_steps.proofs.laws.words_do_steps.Goals as goal
 
 pub returns-clause-int : goal.returns-clause-int
@@ -30,3 +31,6 @@ returns-clause-restart c = restart_steps
 
 pub returns-clause-read : goal.returns-clause-read
 returns-clause-read c = read_steps
+
+pub returns-clause-store : goal.returns-clause-store
+returns-clause-store c = store_steps

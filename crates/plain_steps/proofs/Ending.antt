@@ -1,0 +1,1 @@
+-- The oldest activation of an activity ends.
