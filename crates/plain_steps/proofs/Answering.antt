@@ -1,6 +1,6 @@
 -- Nodes that end an activation.
-use Rattle.std.proofs.Common.{◌≡◌, ◌≢◌, ◌⊎◌, ℕ, zero, suc, ◌+◌, ◌-◌, ◌*◌, ◌%◌, ◌^◌, ◌<◌, ◌≤◌, refl, ◌∙◌, ap, sym, subst, arith, inl, inr}
-use Rattle.std.specs.Prelude.{Bool, true, false, List, [], ◌∷◌, ◌++◌, map, length, Option, Some, None, slice_get, get_or}
+use Rattle.std.proofs.Common.{◌≡◌, ◌⊎◌, ℕ, suc, ◌+◌, ◌-◌, ◌%◌, ◌<◌, ◌≤◌, refl, ◌∙◌, ap, sym, subst, arith, inl, inr}
+use Rattle.std.specs.Prelude.{false, List, [], ◌∷◌, length, Some, get_or}
 use Rattle.self_terms.specs.declared.nodes.Node.{Node}
 use Rattle.self_terms.specs.declared.nodes.Node.TheVariants as nodes
 use Rattle.self_terms.specs.declared.values.Value.{Value}
@@ -8,12 +8,11 @@ use Rattle.self_terms.specs.Depths.{depth, depth_from}
 use Rattle.std.specs.List.{list_any}
 use Rattle.std.specs.Prelude.{◌||◌}
 use Rattle.sparc_insn.specs.declared.insn.Insn.{Insn}
-use Rattle.sparc_store.specs.Words.{Words, word_at, HasFrame}
-use Rattle.sparc_store.specs.Windows.{Frame as Window, IsPlace, kept, frame_before, but_first}
+use Rattle.sparc_store.specs.Words.{Words, word_at}
+use Rattle.sparc_store.specs.Windows.{Frame as Window, frame_before, but_first}
 use Rattle.sparc_machine.specs.State.{MachineState}
 use Rattle.sparc_machine.specs.Alu.{add}
 use Rattle.source_model.specs.State.{State, Activation}
-use Rattle.source_model.specs.Messages.{body_of}
 use Rattle.source_model.specs.Soundness.{body_in}
 use Rattle.source_model.specs.Sends.{is_block_literal as by_source}
 use Rattle.source_model.specs.Step.{step}
@@ -21,25 +20,25 @@ use Rattle.heap_cells.specs.Laying.{Cells}
 use Rattle.heap_cells.specs.Source.{Made, Plain as without, Ended, Live}
 use Rattle.heap_cells.specs.Standing.{Places, AreValues}
 use Rattle.frame_walk.specs.Places.{Frame, pending_offset}
-use Rattle.frame_walk.specs.Raw.{Thread, Going, Raw, becomes, answered_to}
+use Rattle.frame_walk.specs.Raw.{Raw, becomes, answered_to}
 use Rattle.frame_walk.specs.Walk.{AreLaid}
-use Rattle.raw_steps.specs.Stands.{Sense, Stands, IsActivation, IsAt, makes_blocks, has_context, HasLocals, Follows as RawFollows}
+use Rattle.raw_steps.specs.Stands.{Sense, Stands, makes_blocks, has_context, HasLocals}
 use Rattle.raw_steps.proofs.Leaving.{plain_leaves}
 use Rattle.raw_steps.proofs.Answers.{answers_is}
 use Rattle.plain_words.specs.Code.{return_code}
-use Rattle.plain_words.specs.Moves.{IsReady, Ends, CanReturn}
+use Rattle.plain_words.specs.Moves.{IsReady, CanReturn}
 use Rattle.plain_words.specs.Showing.{viewed}
 use Rattle.plain_words.specs.Units.{frame_locals, frame_words, owns_context, is_block_literal as by_words}
 use Rattle.plain_words.proofs.Returning.{return_does}
 use Rattle.plain_runs.specs.Host.{Host, raw_of}
 use Rattle.plain_runs.specs.Sound.{InFrame, IsCaller, RunsAt, callers_of, entry_frame, ending_stub}
-use Rattle.plain_runs.specs.Course.{with_machine, CanGo, code_at, AnswersCaller}
+use Rattle.plain_runs.specs.Course.{CanGo, code_at}
 use Rattle.plain_runs.proofs.Ready.{ready_at}
 use Rattle.plain_runs.proofs.Pointed.{node_within}
 use Rattle.plain_runs.proofs.Popping.{answer_follow}
 use Rattle.plain_runs.specs.Units.{node_offset}
-use Rattle.plain_steps.specs.Steps.{StandsFor, DoesStep, WordsAnswer}
-use Rattle.plain_steps.proofs.Here.{AtNode, at_node_of}
+use Rattle.plain_steps.specs.Steps.{WordsAnswer}
+use Rattle.plain_steps.proofs.Here.{at_node_of}
 use Rattle.plain_steps.proofs.Words.{depth_is, room_of}
 
 first_laid : (asked : ℕ → ℕ → ℕ → Type 0) (entry end : ℕ) (memory : Words) (n sp : ℕ) (w : Window) (pc : ℕ) (held : List Window) → AreLaid asked entry end memory (suc n) sp w pc held → asked pc sp (w 14)
@@ -114,7 +113,7 @@ answer_steps node ends code some z h s b n o f r can plain deep =
     let none : v.context ≡ 0 = f.stands.heap.means.context at.young.number v.context without at.first.context (at.first.made ∙ ap Some kind_is) in
     let raw = plain_leaves (raw_of h) s z f.stands at.young at.older v (callers_of h r.view.older) node at.at none (some_pending z.cells z.places at.young.pending m b n locals (depth x.nodes n) j one at.first.pending) (answers_is s at.young at.older node ends) in
     let now : answered_to (callers_of h (suc o)) (word_at m.memory (m.regs 14 + pending_offset locals j)) ≡ answered_to (callers_of h r.view.older) (get_or v.pending 0 0) =
-        ap (λ y. answered_to (callers_of h y) (word_at m.memory (m.regs 14 + pending_offset locals j))) (sym deep) ∙ ap (answered_to (callers_of h r.view.older)) (sym (youngest_is m b n locals (depth x.nodes n) j one)) in
+    ap (λ y. answered_to (callers_of h y) (word_at m.memory (m.regs 14 + pending_offset locals j))) (sym deep) ∙ ap (answered_to (callers_of h r.view.older)) (sym (youngest_is m b n locals (depth x.nodes n) j one)) in
     let P : Raw → Type 0 = λ q. Stands raw.to q (step s).state in
     record {
       instructions = a.instructions;

@@ -1,10 +1,9 @@
 -- Where the machine is at a node, the source is at it.
-use Rattle.std.proofs.Common.{◌≡◌, ◌≢◌, ℕ, zero, suc, ◌+◌, ◌-◌, ◌<◌, ◌≤◌, ◌==◌, refl, ◌∙◌, ap, sym, subst, arith}
-use Rattle.std.specs.Prelude.{Bool, true, false, if◌then◌else◌, List, [], ◌∷◌, length, Option, Some, None, slice_get, get_or}
+use Rattle.std.proofs.Common.{◌≡◌, ℕ, zero, suc, ◌+◌, ◌==◌, refl, ◌∙◌, ap, sym, subst, arith}
+use Rattle.std.specs.Prelude.{Bool, true, if◌then◌else◌, List, [], ◌∷◌, length, Option, Some, None, slice_get, get_or}
 use Rattle.std.proofs.lemmas.Grind.{common_steps}
 use Rattle.self_terms.specs.declared.nodes.Node.{Node}
 use Rattle.self_terms.specs.declared.nodes.Node.TheVariants as nodes
-use Rattle.self_terms.specs.declared.bodies.Body.{Body}
 use Rattle.self_terms.specs.Depths.{depth}
 use Rattle.sparc_store.specs.Windows.{kept, frame_before, but_first}
 use Rattle.source_model.specs.State.{Activation, Activity, Running, Answered as Ended_with, Failed as Ended_by, State}
@@ -12,8 +11,8 @@ use Rattle.source_model.specs.Messages.{body_of}
 use Rattle.source_model.specs.Soundness.{body_in}
 use Rattle.source_model.specs.Step.{node_at}
 use Rattle.frame_walk.specs.Places.{Frame, shown}
-use Rattle.frame_walk.specs.Raw.{Thread, Going, Raw}
-use Rattle.raw_steps.specs.Stands.{Sense, Stands, IsActivity, IsActivation, AreActivations, HasMaker, IsAt, makes_blocks}
+use Rattle.frame_walk.specs.Raw.{Thread, Going}
+use Rattle.raw_steps.specs.Stands.{Sense, IsActivity, IsActivation, IsAt, makes_blocks}
 use Rattle.plain_words.specs.Units.{frame_locals}
 use Rattle.plain_words.specs.Showing.{viewed}
 use Rattle.plain_runs.specs.Host.{Host, Status, Waiting, seen, waiting, thread_of, threads_from, raw_of, descriptor_at}
@@ -94,10 +93,10 @@ at_node_of z h s b n node f r =
         here = ap (slice_get s.activities) (sym cur) ∙ i.is;
         there = there;
         node_is =
-          ap (λ k. node_at (body_of s i.young.body) k) (sym i.first.next)
-          ∙ ap (λ k. node_at (body_of s k) n) (sym i.first.body)
-          ∙ ap (λ bs. node_at (body_in bs b) n) (sym f.bodies)
-          ∙ got (body_in h.bodies b).nodes n node nodes.End r.node_is;
+            ap (λ k. node_at (body_of s i.young.body) k) (sym i.first.next)
+            ∙ ap (λ k. node_at (body_of s k) n) (sym i.first.body)
+            ∙ ap (λ bs. node_at (body_in bs b) n) (sym f.bodies)
+            ∙ got (body_in h.bodies b).nodes n node nodes.End r.node_is;
       };
       first = i.first;
     }

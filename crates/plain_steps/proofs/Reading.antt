@@ -1,37 +1,32 @@
 -- Own locals that the frame keeps.
-use Rattle.std.proofs.Common.{◌≡◌, ◌≢◌, ℕ, zero, suc, ◌+◌, ◌-◌, ◌*◌, ◌<◌, ◌≤◌, refl, ◌∙◌, ap, sym, subst, arith}
-use Rattle.std.specs.Prelude.{Bool, true, false, if◌then◌else◌, nat_eq, List, [], ◌∷◌, map, length, Option, Some, None, slice_get, get_or}
-use Rattle.self_terms.specs.declared.nodes.Node.{Node}
+use Rattle.std.proofs.Common.{◌≡◌, ℕ, zero, suc, ◌+◌, ◌*◌, ◌<◌, refl, ◌∙◌, ap, sym, subst, arith}
+use Rattle.std.specs.Prelude.{Bool, true, false, if◌then◌else◌, nat_eq, List, [], ◌∷◌, map, length, Some, get_or}
 use Rattle.self_terms.specs.declared.nodes.Node.TheVariants as nodes
 use Rattle.self_terms.specs.declared.values.Value.{Value}
 use Rattle.self_terms.specs.Depths.{depth, depth_from}
-use Rattle.sparc_insn.specs.declared.insn.Insn.{Insn}
 use Rattle.sparc_store.specs.Words.{Words, word_at}
 use Rattle.sparc_store.specs.Windows.{kept}
-use Rattle.sparc_machine.specs.State.{MachineState}
-use Rattle.source_model.specs.State.{State}
 use Rattle.source_model.specs.Soundness.{body_in}
 use Rattle.source_model.specs.Step.{step}
 use Rattle.heap_cells.specs.Laying.{Cells}
 use Rattle.heap_cells.specs.Source.{Made, Plain as without}
 use Rattle.heap_cells.specs.Standing.{Places, AreValues}
-use Rattle.frame_walk.specs.Places.{Frame, word_in_place, slots_from, local_offset}
-use Rattle.frame_walk.specs.Raw.{Going, Raw, becomes, moved_on}
-use Rattle.raw_steps.specs.Stands.{Sense, Stands, HasLocals, Follows as RawFollows}
+use Rattle.frame_walk.specs.Places.{word_in_place, slots_from, local_offset}
+use Rattle.frame_walk.specs.Raw.{Going, becomes, moved_on}
+use Rattle.raw_steps.specs.Stands.{HasLocals, Follows as RawFollows}
 use Rattle.raw_steps.specs.Nodes.{own_local, kept_at}
 use Rattle.raw_steps.proofs.Simple.{read_own_follows}
 use Rattle.plain_words.specs.Code.{read_code}
 use Rattle.plain_words.specs.Moves.{IsReady, Does, pended, local_address}
 use Rattle.plain_words.specs.Showing.{viewed}
-use Rattle.plain_words.specs.Units.{frame_locals, frame_words, owns_context}
+use Rattle.plain_words.specs.Units.{frame_locals, frame_words}
 use Rattle.plain_words.proofs.Reading.{read_does}
-use Rattle.plain_runs.specs.Host.{Host, raw_of}
-use Rattle.plain_runs.specs.Sound.{RunsAt, callers_of}
-use Rattle.plain_runs.specs.Course.{CanGo, code_at}
+use Rattle.plain_runs.specs.Host.{raw_of}
+use Rattle.plain_runs.specs.Sound.{callers_of}
 use Rattle.plain_runs.proofs.Ready.{ready_at}
-use Rattle.plain_steps.specs.Steps.{StandsFor, DoesStep, WordsRead}
-use Rattle.plain_steps.proofs.Here.{AtNode, at_node_of}
-use Rattle.plain_steps.proofs.Words.{depth_is, room_of, pends}
+use Rattle.plain_steps.specs.Steps.{WordsRead}
+use Rattle.plain_steps.proofs.Here.{at_node_of}
+use Rattle.plain_steps.proofs.Words.{room_of, pends}
 use Rattle.plain_steps.proofs.Answering.{no_context, wants_none}
 
 -- the word of a local of the frame
@@ -71,8 +66,8 @@ read_steps slot z h s b n f r can plain low =
     let held : AreValues z.cells z.places at.young.locals v.locals = (let P : Made → Type 0 = λ y. HasLocals z at.young v y in subst P kind_is at.first.locals) in
     let many : length at.young.locals ≡ locals = values_long z.cells z.places at.young.locals v.locals held ∙ slots_long m.memory (kept m.regs) (m.regs 14) (local_offset 0) locals in
     let own : own_local (raw_of h).mem v slot ≡ word =
-        ap (λ y. if y then get_or v.locals slot 0 else kept_at (raw_of h).mem v.context slot) (is_zero v.context none)
-        ∙ local_word m.memory (kept m.regs) (m.regs 14) (local_offset 0) locals slot low in
+    ap (λ y. if y then get_or v.locals slot 0 else kept_at (raw_of h).mem v.context slot) (is_zero v.context none)
+    ∙ local_word m.memory (kept m.regs) (m.regs 14) (local_offset 0) locals slot low in
     let raw = read_own_follows (raw_of h) s z f.stands at.young at.older v (callers_of h r.view.older) slot at.at (omega (arith, many, low)) in
     let raw2 = (let P : ℕ → Type 0 = λ y. RawFollows z (becomes (raw_of h) (Going (moved_on (y ∷ v.pending) v ∷ callers_of h r.view.older))) (step s) [] in subst P own raw) in
     pends z h s b n node word r can refl (λ q. omega arith) d2 raw2

@@ -1,37 +1,33 @@
 -- An activation begins again.
-use Rattle.std.proofs.Common.{◌≡◌, ◌≢◌, ℕ, zero, suc, ◌+◌, ◌-◌, ◌*◌, ◌%◌, ◌^◌, ◌<◌, ◌≤◌, refl, ◌∙◌, ap, sym, subst, arith}
-use Rattle.std.specs.Prelude.{Bool, true, false, List, [], ◌∷◌, ◌++◌, length, Option, Some, None, slice_get, negsuc}
+use Rattle.std.proofs.Common.{◌≡◌, ℕ, suc, ◌+◌, ◌-◌, ◌*◌, ◌%◌, ◌^◌, ◌<◌, refl, ◌∙◌, ap, sym, subst, arith}
+use Rattle.std.specs.Prelude.{false, List, [], ◌∷◌, length, Some, slice_get, negsuc}
 use Rattle.self_terms.specs.declared.nodes.Node.{Node}
 use Rattle.self_terms.specs.declared.nodes.Node.TheVariants as nodes
-use Rattle.self_terms.specs.Depths.{depth, depth_from}
+use Rattle.self_terms.specs.Depths.{depth}
 use Rattle.sparc_insn.specs.declared.insn.Insn.TheVariants.{Branch}
 use Rattle.sparc_store.specs.Words.{Words, word_at, IsWithin}
 use Rattle.sparc_machine.specs.State.{MachineState}
-use Rattle.sparc_machine.specs.Table.{effect, transferred, words_on, branched}
-use Rattle.source_model.specs.State.{State}
+use Rattle.sparc_machine.specs.Table.{effect, transferred, words_on}
 use Rattle.source_model.specs.Soundness.{body_in}
-use Rattle.source_model.specs.Step.{step}
-use Rattle.frame_walk.specs.Raw.{Going}
 use Rattle.raw_steps.proofs.Simple.{restart_follows}
-use Rattle.plain_words.specs.Going.{Goes, Stands, StandsAt, IsCodeFrom, At}
+use Rattle.plain_words.specs.Going.{Goes, Stands, StandsAt, IsCodeFrom}
 use Rattle.plain_words.specs.Code.{poll, count}
-use Rattle.plain_words.specs.Moves.{is_scratch, IsReady, Moved}
+use Rattle.plain_words.specs.Moves.{IsReady, Moved}
 use Rattle.plain_words.specs.Showing.{viewed}
-use Rattle.plain_words.specs.Units.{restart_code, frame_locals, frame_words, owns_context, entry_code}
+use Rattle.plain_words.specs.Units.{restart_code, frame_locals, frame_words, owns_context}
 use Rattle.plain_words.proofs.Basics.{goes_then, goes_on, goes_none, on, stepped, stepped_to, at_front, at_behind}
 use Rattle.plain_words.proofs.Straight.{put_spares}
 use Rattle.plain_words.proofs.Polls.{polled, poll_goes, poll_spares}
 use Rattle.plain_words.proofs.Shown.{left_shows}
-use Rattle.plain_runs.specs.Host.{Host, raw_of, heap_words}
+use Rattle.plain_runs.specs.Host.{raw_of, heap_words}
 use Rattle.plain_runs.specs.Units.{words_before, node_offset, IsPoll}
-use Rattle.plain_runs.specs.Sound.{RunsAt, callers_of}
-use Rattle.plain_runs.specs.Course.{with_machine, CanGo, code_at}
+use Rattle.plain_runs.specs.Course.{with_machine}
 use Rattle.plain_runs.proofs.Located.{none_before}
 use Rattle.plain_runs.proofs.Keeping.{unit_kept}
 use Rattle.plain_runs.proofs.Working.{ChangedInView, code_same, view_on, view_goes_on}
 use Rattle.plain_runs.proofs.Ready.{ready_at}
-use Rattle.plain_steps.specs.Steps.{StandsFor, DoesStep, WordsDo, Always}
-use Rattle.plain_steps.proofs.Here.{AtNode, at_node_of}
+use Rattle.plain_steps.specs.Steps.{WordsDo, Always}
+use Rattle.plain_steps.proofs.Here.{at_node_of}
 use Rattle.plain_steps.proofs.Words.{meets_step}
 
 -- so many words back
@@ -60,8 +56,8 @@ branch_back m p words back first r e some =
     record {
       to = m2;
       goes = goes_then 5 2 m m0 m2 front.0
-        (goes_on 1 m0 m1 m2 (stepped_to m0 m1 (p + 24) (p + 24 + 4) 1 (Branch false 8 (negsuc (back - 1))) front.1 a0 at.0 refl tt refl)
-        (goes_on 0 m1 m2 m2 (stepped m1 (p + 24 + 4) first 0 count s1 a1 at.1.0 refl tt) (goes_none m2)));
+          (goes_on 1 m0 m1 m2 (stepped_to m0 m1 (p + 24) (p + 24 + 4) 1 (Branch false 8 (negsuc (back - 1))) front.1 a0 at.0 refl tt refl)
+          (goes_on 0 m1 m2 m2 (stepped m1 (p + 24 + 4) first 0 count s1 a1 at.1.0 refl tt) (goes_none m2)));
       moved = record {
         stands = s2;
         memory_is = refl;

@@ -1,37 +1,31 @@
 -- Own locals that the frame keeps are stored.
 use Rattle.std.proofs.Common.{◌≡◌, ◌≢◌, ◌⊎◌, ℕ, zero, suc, ◌+◌, ◌-◌, ◌*◌, ◌%◌, ◌^◌, ◌<◌, ◌≤◌, refl, ◌∙◌, ap, sym, subst, arith, inl, inr}
-use Rattle.std.specs.Prelude.{Bool, true, false, List, [], ◌∷◌, ◌++◌, map, length, Option, Some, None, slice_get, slice_set, get_or, drop}
-use Rattle.self_terms.specs.declared.nodes.Node.{Node}
+use Rattle.std.specs.Prelude.{Bool, false, ◌∷◌, ◌++◌, map, length, Some, slice_set, get_or, drop}
 use Rattle.self_terms.specs.declared.nodes.Node.TheVariants as nodes
 use Rattle.self_terms.specs.Depths.{depth, depth_from}
-use Rattle.sparc_store.specs.Words.{Words, word_at, with_word, HasWord, HasFrame, IsWithin}
+use Rattle.sparc_store.specs.Words.{Words, word_at, with_word, HasWord, IsWithin}
 use Rattle.sparc_store.specs.Windows.{kept}
 use Rattle.sparc_store.proofs.Placed.{others_stay, put_there, put_stays_within}
 use Rattle.sparc_machine.specs.State.{MachineState}
-use Rattle.source_model.specs.State.{State}
 use Rattle.source_model.specs.Soundness.{body_in}
-use Rattle.source_model.specs.Step.{step}
-use Rattle.heap_cells.specs.Source.{Made, Plain as without}
+use Rattle.heap_cells.specs.Source.{Plain as without}
 use Rattle.frame_walk.specs.Places.{Frame, word_in_place, slots_from, pending_places, local_offset, pending_offset, holder_offset}
-use Rattle.frame_walk.specs.Raw.{Going, Raw, becomes, moved_on}
-use Rattle.raw_steps.specs.Stands.{Sense, Stands, HasLocals, Follows as RawFollows}
 use Rattle.raw_steps.proofs.Storing.{plain_stores}
 use Rattle.plain_words.specs.Going.{StandsAt}
 use Rattle.plain_words.specs.Code.{poll, store_code}
-use Rattle.plain_words.specs.Moves.{IsReady, Does, Moved, pended, assigned}
+use Rattle.plain_words.specs.Moves.{IsReady, Moved, pended}
 use Rattle.plain_words.specs.Showing.{viewed}
-use Rattle.plain_words.specs.Units.{frame_locals, frame_words, owns_context}
+use Rattle.plain_words.specs.Units.{frame_locals, frame_words}
 use Rattle.plain_words.proofs.Placing.{placed}
 use Rattle.plain_words.proofs.Reading.{store_does}
 use Rattle.plain_words.proofs.Shown.{pended_shows}
-use Rattle.plain_runs.specs.Host.{Host, raw_of, heap_words}
-use Rattle.plain_runs.specs.Sound.{RunsAt, callers_of}
-use Rattle.plain_runs.specs.Course.{with_machine, CanGo, code_at}
+use Rattle.plain_runs.specs.Host.{raw_of, heap_words}
+use Rattle.plain_runs.specs.Sound.{callers_of}
 use Rattle.plain_runs.proofs.Keeping.{unit_kept}
 use Rattle.plain_runs.proofs.Working.{ChangedInView, code_same, heap_stays, view_on, view_goes_on}
 use Rattle.plain_runs.proofs.Ready.{ready_at, next_poll}
-use Rattle.plain_steps.specs.Steps.{StandsFor, DoesStep, WordsStore}
-use Rattle.plain_steps.proofs.Here.{AtNode, at_node_of}
+use Rattle.plain_steps.specs.Steps.{WordsStore}
+use Rattle.plain_steps.proofs.Here.{at_node_of}
 use Rattle.plain_steps.proofs.Words.{depth_is, depth_more, room_of, meets_step}
 use Rattle.plain_steps.proofs.Answering.{no_context, wants_none, some_pending, youngest_is}
 
@@ -120,13 +114,13 @@ store_steps slot z h s b n f r can plain low =
       context = w 1;
       mark = sp;
       locals = (ap (λ a. map (word_in_place (with_word m.memory a value) w sp) (slots_from (local_offset 0) locals)) same_place
-        ∙ slot_set m.memory w sp value (local_offset 0) locals slot low can.hosted.within (let P : ℕ → Type 0 = HasWord in subst P same_place there)
-        ∙ ap (slice_set v.locals slot) (sym top)) i;
+          ∙ slot_set m.memory w sp value (local_offset 0) locals slot low can.hosted.within (let P : ℕ → Type 0 = HasWord in subst P same_place there)
+          ∙ ap (slice_set v.locals slot) (sym top)) i;
       pending = (ap (λ ws. m.regs 24 ∷ ws) (pending_above m.memory w sp place value locals j (omega (arith, low))) ∙ ap (λ ws. m.regs 24 ∷ ws) (sym rest)) i;
     } in
     let deeper : depth x.nodes (n + 1) ≡ j + 1 = depth_more x.nodes n node r.node_is ∙ omega (arith, one) in
     let view = view_on h b (n + 1) next.0 to now r.view can.hosted can.runs can.current c mv.kept mv.older stands poll_next next.1
-        (ap (viewed to b (n + 1) locals) deeper ∙ shows.0 b n (n + 1) ∙ was) in
+    (ap (viewed to b (n + 1) locals) deeper ∙ shows.0 b n (n + 1) ∙ was) in
     let kind_is : at.first.kind ≡ without = no_context z at.young v at.first.kind (sym at.first.wanted ∙ wants_none h s b at.young.body f.bodies at.first.body plain) at.first.locals in
     let none : v.context ≡ 0 = f.stands.heap.means.context at.young.number v.context without at.first.context (at.first.made ∙ ap Some kind_is) in
     let raw = plain_stores (raw_of h) s z f.stands at.young at.older v (callers_of h r.view.older) slot at.at none (some_pending z.cells z.places at.young.pending m b n locals (depth x.nodes n) j one at.first.pending) in

@@ -1,28 +1,27 @@
 -- Nodes that are done in words.
-use Rattle.std.proofs.Common.{◌≡◌, ◌≢◌, ℕ, zero, suc, ◌+◌, ◌-◌, ◌<◌, ◌≤◌, refl, ◌∙◌, ap, sym, subst, arith}
-use Rattle.std.specs.Prelude.{true, List, [], ◌∷◌, ◌++◌, length, Option, Some, None, slice_get, drop, ℤ}
+use Rattle.std.proofs.Common.{◌≡◌, ℕ, suc, ◌+◌, ◌<◌, refl, ◌∙◌, ap, sym, subst, arith}
+use Rattle.std.specs.Prelude.{true, List, [], ◌∷◌, length, Some, slice_get, ℤ}
 use Rattle.self_terms.specs.declared.nodes.Node.{Node}
 use Rattle.self_terms.specs.declared.nodes.Node.TheVariants as nodes
 use Rattle.self_terms.specs.Words.{IsSmall, word_of}
-use Rattle.self_terms.specs.Depths.{taken, grown, depth, depth_from, is_inner}
+use Rattle.self_terms.specs.Depths.{grown, depth, depth_from, is_inner}
 use Rattle.source_model.specs.State.{State}
 use Rattle.source_model.specs.Soundness.{body_in}
 use Rattle.source_model.specs.Step.{step}
-use Rattle.frame_walk.specs.Places.{Frame}
 use Rattle.frame_walk.specs.Raw.{Thread, Going, Raw, becomes, moved_on}
-use Rattle.raw_steps.specs.Stands.{Sense, Stands, IsAt, Follows as RawFollows}
+use Rattle.raw_steps.specs.Stands.{Sense, Stands, Follows as RawFollows}
 use Rattle.raw_steps.proofs.Simple.{int_follows, string_follows, nil_follows, self_follows, drop_follows}
 use Rattle.plain_words.specs.Moves.{Does, pended}
 use Rattle.plain_words.specs.Showing.{viewed}
 use Rattle.plain_words.specs.Units.{frame_locals, frame_words, object_word}
 use Rattle.plain_words.proofs.Simple.{constant_does, self_does, drop_does}
 use Rattle.plain_runs.specs.Host.{Host, raw_of}
-use Rattle.plain_runs.specs.Sound.{RunsAt, IsHosted, GoesOn, callers_of}
-use Rattle.plain_runs.specs.Course.{with_machine, CanGo, code_at, Follows}
+use Rattle.plain_runs.specs.Sound.{RunsAt, callers_of}
+use Rattle.plain_runs.specs.Course.{CanGo, code_at, Follows}
 use Rattle.plain_runs.proofs.Ready.{ready_at, pended_follow, dropped_follow}
 use Rattle.plain_runs.proofs.Popping.{depth_after}
-use Rattle.plain_steps.specs.Steps.{StandsFor, DoesStep, WordsDo, Always}
-use Rattle.plain_steps.proofs.Here.{AtNode, at_node_of}
+use Rattle.plain_steps.specs.Steps.{DoesStep, WordsDo, Always}
+use Rattle.plain_steps.proofs.Here.{at_node_of}
 
 pub depth_is : (nodes : List Node) (n : ℕ) → depth nodes n ≡ depth_from 0 nodes n
 unfolding depth

@@ -2,7 +2,7 @@
 ghost use Rattle.std.specs.Prelude.{ℕ, ℤ, ◌<◌, length};
 ghost use Rattle.self_terms.specs.Words.{IsSmall};
 ghost use Rattle.self_terms.specs.declared.nodes.Node.TheVariants as nodes;
-ghost use Rattle.plain_steps.specs.Steps.{Always, WordsAnswer, WordsDo, WordsRead, WordsStore};
+ghost use Rattle.plain_steps.specs.Steps.{Always, WordsAnswer, WordsDo, WordsEnd, WordsRead, WordsStore};
 
 /// A law: the words of a node do the source's step.
 pub fn words_do_steps()
@@ -16,4 +16,10 @@ pub fn words_do_steps()
     ensures store { (slot : ℕ) → WordsStore slot }
     ensures answer { WordsAnswer nodes.Return }
     ensures end { WordsAnswer nodes.End }
+{}
+
+/// A law: the words of a node that ends the oldest activation of an activity do the source's step, once service 9 has told its answer.
+pub fn words_end_activities()
+    ensures answer { WordsEnd nodes.Return }
+    ensures end { WordsEnd nodes.End }
 {}
