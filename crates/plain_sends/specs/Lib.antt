@@ -1,0 +1,2 @@
+-- Sends in plain code.
+pub mod Services
