@@ -60,7 +60,7 @@ call_inner (nodes.Resend sel) e = refl
 call_inner (nodes.Directed parent sel) e = refl
 call_inner _ e = absurd (cc)
 
-depth_is : (nodes : List Node) (n : ℕ) → depth nodes n ≡ depth_from 0 nodes n
+pub depth_is : (nodes : List Node) (n : ℕ) → depth nodes n ≡ depth_from 0 nodes n
 unfolding depth
 depth_is nodes n = refl
 

@@ -1,2 +1,4 @@
 pub mod Settling
 pub mod Behind
+pub mod Resumming
+pub mod Serving
