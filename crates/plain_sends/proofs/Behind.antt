@@ -1,20 +1,19 @@
 -- Behind a call the answer is pended.
-use Rattle.std.proofs.Common.{◌≡◌, ◌≢◌, ◌⊎◌, ℕ, zero, suc, ◌+◌, ◌-◌, ◌*◌, ◌%◌, ◌^◌, ◌<◌, ◌≤◌, refl, ◌∙◌, ap, sym, subst, arith, inl, inr, length-append}
-use Rattle.std.specs.Prelude.{Bool, true, false, List, [], ◌∷◌, ◌++◌, map, length, Option, Some, None, slice_get, drop}
+use Rattle.std.proofs.Common.{◌≡◌, ℕ, suc, ◌+◌, ◌-◌, ◌*◌, ◌<◌, ◌≤◌, refl, ◌∙◌, ap, sym, subst, arith, length-append}
+use Rattle.std.specs.Prelude.{Bool, true, List, [], ◌∷◌, ◌++◌, length, Some, slice_get}
 use Rattle.std.proofs.lemmas.Option.{slice_get_within}
 use Rattle.self_terms.specs.declared.nodes.Node.{Node}
 use Rattle.self_terms.specs.declared.nodes.Node.TheVariants as nodes
 use Rattle.self_terms.specs.Depths.{taken, grown, depth, depth_from, is_inner}
 use Rattle.sparc_insn.specs.declared.insn.Insn.{Insn}
-use Rattle.sparc_store.specs.Words.{Words, word_at, with_word, IsWithin}
-use Rattle.sparc_store.specs.Windows.{kept}
+use Rattle.sparc_store.specs.Words.{Words, with_word, IsWithin}
 use Rattle.sparc_store.proofs.Placed.{put_stays_within}
 use Rattle.sparc_machine.specs.State.{MachineState}
 use Rattle.frame_walk.specs.Places.{Frame, pending_offset}
 use Rattle.source_model.specs.Soundness.{body_in}
 use Rattle.plain_words.specs.Going.{Goes, At, StandsAt, IsCodeFrom}
 use Rattle.plain_words.specs.Code.{poll, answered_code, send_code, implied_code}
-use Rattle.plain_words.specs.Moves.{is_scratch, Moved, pended}
+use Rattle.plain_words.specs.Moves.{Moved, pended}
 use Rattle.plain_words.specs.Showing.{viewed}
 use Rattle.plain_words.specs.declared.references.References.{References}
 use Rattle.plain_words.specs.Units.{node_code, owns_context, frame_locals, frame_words, is_call}
@@ -23,8 +22,8 @@ use Rattle.plain_words.proofs.Straight.{straight, goes_straight, straight_spares
 use Rattle.plain_words.proofs.Placing.{placed}
 use Rattle.plain_words.proofs.Shown.{pended_shows}
 use Rattle.plain_runs.specs.Host.{Host, heap_words}
-use Rattle.plain_runs.specs.Units.{words_before, node_offset, HasUnit, IsPoll, IsBehindCall}
-use Rattle.plain_runs.specs.Sound.{InFrame, RunsAt, IsHosted, callers_of}
+use Rattle.plain_runs.specs.Units.{words_before, node_offset, IsPoll, IsBehindCall}
+use Rattle.plain_runs.specs.Sound.{InFrame, IsHosted}
 use Rattle.plain_runs.specs.Course.{with_machine, AllRun}
 use Rattle.plain_runs.proofs.Pointed.{next_offset}
 use Rattle.plain_runs.proofs.Keeping.{unit_kept}

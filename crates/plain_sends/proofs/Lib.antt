@@ -2,3 +2,4 @@ pub mod Settling
 pub mod Behind
 pub mod Resumming
 pub mod Serving
+pub mod Sending

@@ -1,16 +1,12 @@
 -- The host's sums are no part of what holds of machine and units.
-use Rattle.std.proofs.Common.{◌≡◌, ◌≢◌, ℕ, zero, suc, ◌+◌, ◌*◌, ◌<◌, ◌≤◌, ◌==◌, refl, ◌∙◌, ap, sym, subst, arith}
-use Rattle.std.specs.Prelude.{Bool, true, false, if◌then◌else◌, List, [], ◌∷◌, length, Option, Some, None, slice_get}
+use Rattle.std.proofs.Common.{◌≡◌, ℕ, ◌+◌, refl, ◌∙◌, ap}
+use Rattle.std.specs.Prelude.{List, [], ◌∷◌}
 use Rattle.self_terms.specs.declared.nodes.Node.{Node}
-use Rattle.sparc_store.specs.Words.{Words}
 use Rattle.sparc_store.specs.Windows.{saved_at, frame_before, but_first}
-use Rattle.frame_walk.specs.Raw.{Thread, Going}
-use Rattle.frame_walk.specs.Walk.{AreLaid}
 use Rattle.frame_walk.proofs.Resting.{laid_as}
-use Rattle.plain_runs.specs.Host.{Host, Status, Waiting, Answered, Failed, seen, waiting, thread_of, threads_from, descriptor_at}
-use Rattle.plain_runs.specs.Units.{HasUnit, IsPoll, IsInPoll, IsBehindCall}
-use Rattle.plain_runs.specs.Sound.{IsRoomy, IsCaller, IsHeld, Calls, Polls, IsRunnable, InFrame, RunsAt, IsHosted, entry_frame, ending_stub}
-use Rattle.plain_runs.specs.Course.{AllRun}
+use Rattle.plain_runs.specs.Host.{Host, Status, Waiting, Answered, Failed, thread_of, threads_from, descriptor_at}
+use Rattle.plain_runs.specs.Units.{HasUnit}
+use Rattle.plain_runs.specs.Sound.{IsCaller, IsHeld, Calls, Polls, IsRunnable, RunsAt, IsHosted, entry_frame, ending_stub}
 
 abbrev pub resummed : ℕ → ℕ → Host → Host
 resummed steps cost h = record h { steps = steps; cost = cost }

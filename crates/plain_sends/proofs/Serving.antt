@@ -1,33 +1,33 @@
 -- A send that data answers.
-use Rattle.std.proofs.Common.{◌≡◌, ◌≢◌, ◌⊎◌, ℕ, zero, suc, ◌+◌, ◌-◌, ◌*◌, ◌%◌, ◌^◌, ◌<◌, ◌≤◌, refl, ◌∙◌, ap, sym, subst, arith, inl, inr}
-use Rattle.std.specs.Prelude.{Bool, true, false, if◌then◌else◌, nat_eq, ◌&&◌, not, List, [], ◌∷◌, map, length, Option, Some, None, slice_get, slice_set, drop}
+use Rattle.std.proofs.Common.{◌≡◌, ℕ, zero, suc, ◌+◌, ◌-◌, ◌*◌, ◌%◌, ◌^◌, ◌<◌, ◌≤◌, refl, ◌∙◌, ap, sym, subst, arith}
+use Rattle.std.specs.Prelude.{false, nat_eq, List, [], ◌∷◌, map, slice_set, drop}
 use Rattle.self_terms.specs.declared.nodes.Node.{Node}
 use Rattle.self_terms.specs.Depths.{taken, depth, depth_from}
-use Rattle.sparc_store.specs.Words.{Words, word_at}
+use Rattle.sparc_store.specs.Words.{Words}
 use Rattle.sparc_store.specs.Windows.{kept}
 use Rattle.sparc_machine.specs.State.{MachineState, with_reg}
-use Rattle.frame_walk.specs.Places.{Frame, Place, Slot, shown, plain_descriptor, word_in_place, pending_places, pending_offset, slots_from, holder_offset, local_offset}
+use Rattle.frame_walk.specs.Places.{Frame, shown, plain_descriptor, word_in_place, pending_places}
 use Rattle.frame_walk.specs.Walk.{SameBetween}
 use Rattle.frame_walk.proofs.Resting.{shown_same}
-use Rattle.frame_walk.specs.Raw.{Thread, Going, Raw, becomes, moved_on}
+use Rattle.frame_walk.specs.Raw.{Going, becomes, moved_on}
 use Rattle.source_model.specs.Soundness.{body_in}
-use Rattle.plain_words.specs.Going.{Goes, IsTrap, StandsAt}
-use Rattle.plain_words.specs.Moves.{is_scratch, Asks, Moved}
+use Rattle.plain_words.specs.Going.{Goes, StandsAt}
+use Rattle.plain_words.specs.Moves.{Asks}
 use Rattle.std.proofs.lemmas.Grind.{common_steps}
 use Rattle.plain_words.proofs.Basics.{other_register}
 use Rattle.plain_words.proofs.Shown.{no_scratch, window_same}
 use Rattle.plain_words.specs.Showing.{viewed}
-use Rattle.plain_words.specs.Units.{frame_locals, frame_words, is_call}
-use Rattle.plain_runs.specs.Host.{Host, seen, threads_from, raw_of, heap_words}
+use Rattle.plain_words.specs.Units.{frame_locals, frame_words}
+use Rattle.plain_runs.specs.Host.{Host, seen, threads_from, raw_of}
 use Rattle.plain_runs.specs.Units.{IsBehindCall}
-use Rattle.plain_runs.specs.Sound.{InFrame, RunsAt, IsHosted, GoesOn, callers_of}
-use Rattle.plain_runs.specs.Course.{with_machine, AllRun, CanGo}
+use Rattle.plain_runs.specs.Sound.{RunsAt, IsHosted, callers_of}
+use Rattle.plain_runs.specs.Course.{with_machine, CanGo}
 use Rattle.plain_runs.proofs.Keeping.{threads_set, unit_kept}
 use Rattle.plain_runs.proofs.Working.{run_kept, plain_fits}
-use Rattle.plain_sends.specs.Services.{cleared, with_left, settled, data_answers}
-use Rattle.plain_sends.proofs.Behind.{PendedBehind, pended_behind, depth_is}
-use Rattle.plain_sends.proofs.Settling.{Controlled, controlled, SettledTo, StillThere, settles}
-use Rattle.plain_sends.proofs.Resumming.{resummed, runs_as, hosted_as, threads_as}
+use Rattle.plain_sends.specs.Services.{cleared, with_left, data_answers}
+use Rattle.plain_sends.proofs.Behind.{pended_behind, depth_is}
+use Rattle.plain_sends.proofs.Settling.{Controlled, controlled, SettledTo, settles}
+use Rattle.plain_sends.proofs.Resumming.{runs_as, hosted_as, threads_as}
 
 set_set : {A : Type 0} (xs : List A) (c : ℕ) (a b : A) → slice_set (slice_set xs c a) c b ≡ slice_set xs c b
 set_set [] c a b = refl
@@ -43,14 +43,15 @@ drop_pending memory window sp locals (suc q) (suc k) h = drop_pending memory win
 older_ones : (memory : Words) (window : ℕ → ℕ) (sp b n locals q k : ℕ) → q ≤ k → shown memory window sp (plain_descriptor b n locals (k - q)) ≡ record (shown memory window sp (plain_descriptor b n locals k)) { pending = drop q (shown memory window sp (plain_descriptor b n locals k)).pending }
 older_ones memory window sp b n locals q k h = λ i. record (shown memory window sp (plain_descriptor b n locals k)) { pending = sym (drop_pending memory window sp locals q k h) i }
 
--- What comes of a send that data answers: after so many instructions and the service one more leads to the next node's poll, and machine and
--- host show the answer pended in place of receiver and arguments.
-pub record Served (h : Host) (b n older word : ℕ) (rest : List ℕ) (f : Frame) : Type 0 where
-  pub to : Host
+-- What comes of a send that data answers: one instruction behind the service leads to the next node's poll, and machine and host show the
+-- answer pended in place of receiver and arguments.
+pub record Served (h after : Host) (b n older word : ℕ) (rest : List ℕ) (f : Frame) : Type 0 where
+  pub to : MachineState
+  pub goes : Goes 1 after.machine to
   pub next : Node
-  pub hosted : IsHosted to
-  pub runs : RunsAt to b (n + 1) next
-  pub raw : raw_of to ≡ becomes (raw_of h) (Going (moved_on (word ∷ rest) f ∷ callers_of h older))
+  pub hosted : IsHosted (with_machine after to)
+  pub runs : RunsAt (with_machine after to) b (n + 1) next
+  pub raw : raw_of (with_machine after to) ≡ becomes (raw_of h) (Going (moved_on (word ∷ rest) f ∷ callers_of h older))
 
 other : (a b : ℕ) → b < a → nat_eq a b ≡ false
 other a b h = grind (arith, common_steps)
@@ -64,7 +65,7 @@ high_cleared regs word r h = three_others regs word r (other r 8 (omega arith)) 
 pub served : (h : Host) (b n : ℕ) (node : Node) (word goal cost at receiver k args : ℕ) → (r : RunsAt h b n node) → CanGo h → goal ≤ 1000000000
     → (a : Asks h.machine 1 at receiver (frame_locals (body_in h.bodies b)) k args) → IsBehindCall h (at + 4) b n node → at + 8 < 2 ^ 32 → taken node ≤ depth_from 0 (body_in h.bodies b).nodes n
     → (let f = viewed h.machine b n (frame_locals (body_in h.bodies b)) (depth (body_in h.bodies b).nodes n) in
-      Served h b n r.view.older word (drop (taken node) f.pending) f)
+      Served h (data_answers goal cost word (with_machine h a.to)) b n r.view.older word (drop (taken node) f.pending) f)
 served h b n node word goal cost at receiver k args r can few a behind low takes =
     let m = h.machine in
     let x = body_in h.bodies b in
@@ -120,7 +121,8 @@ served h b n node word goal cost at receiver k args r can few a behind low takes
         ∙ ap (λ z. slice_set (threads_from h 0 h.statuses) h.current (Going (p.now ∷ z))) still.callers
         ∙ ap (λ z. slice_set (threads_from h 0 h.statuses) h.current (Going (z ∷ callers_of h r.view.older))) moved in
     record {
-      to = resummed steps sum h2;
+      to = t2;
+      goes = p.goes;
       next = p.next;
       hosted = hosted_as steps sum h2 p.view.hosted;
       runs = runs_as steps sum h2 b (n + 1) p.next p.view.runs;

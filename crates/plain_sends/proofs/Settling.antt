@@ -1,22 +1,21 @@
 -- What a service does to the counts and the control region leaves frames, units and heap.
-use Rattle.std.proofs.Common.{◌≡◌, ◌≢◌, ◌⊎◌, ℕ, zero, suc, ◌+◌, ◌-◌, ◌*◌, ◌/◌, ◌%◌, ◌^◌, ◌<◌, ◌≤◌, refl, ◌∙◌, ap, sym, subst, arith, inl, inr}
-use Rattle.std.specs.Prelude.{Bool, true, false, List, [], ◌∷◌, length, Option, Some, None, slice_get, All}
+use Rattle.std.proofs.Common.{◌≡◌, ◌≢◌, ℕ, ◌+◌, ◌*◌, ◌/◌, ◌<◌, ◌≤◌, refl, ◌∙◌, ap, sym, subst, arith, inl, inr}
+use Rattle.std.specs.Prelude.{List, [], ◌∷◌, All}
 use Rattle.sparc_insn.specs.declared.insn.Insn.TheVariants.{Trap}
 use Rattle.std.proofs.lemmas.Grind.{common_steps}
 use Rattle.sparc_store.specs.Regions.{Place, Code, Heap, Control, Stacks, Nowhere, place_of}
 use Rattle.sparc_store.specs.Words.{Words, word_at, with_word, put_in, HasWord, HasFrame, IsWithin}
-use Rattle.sparc_store.specs.Windows.{Frame as Window, kept, saved_at, frame_before, but_first}
+use Rattle.sparc_store.specs.Windows.{Frame as Window, saved_at, frame_before, but_first}
 use Rattle.sparc_store.proofs.Placed.{others_stay, put_there, put_stays_within}
 use Rattle.sparc_machine.specs.State.{MachineState}
-use Rattle.frame_walk.specs.Places.{Descriptor, Frame}
-use Rattle.frame_walk.specs.Walk.{activations, AreLaid, Frames, SameBetween}
+use Rattle.frame_walk.specs.Walk.{activations, AreLaid, SameBetween}
 use Rattle.frame_walk.proofs.Resting.{rests, laid_as, before_same, saved_same, ends_below}
 use Rattle.source_model.specs.Soundness.{body_in}
-use Rattle.plain_runs.specs.Host.{Host, Status, Waiting, seen, waiting, descriptor_at, heap_words}
+use Rattle.plain_runs.specs.Host.{Host, descriptor_at, heap_words}
 use Rattle.plain_runs.specs.Sound.{IsWindow, IsCaller, IsHeld, InFrame, IsHosted, callers_of, entry_frame, ending_stub}
 use Rattle.plain_runs.specs.Course.{with_machine, AllRun}
 use Rattle.plain_runs.proofs.Keeping.{unit_kept, stub_kept, caller_kept, held_kept, OthersWait}
-use Rattle.plain_runs.proofs.Working.{callers_have_room, held_have_room, same_stack, same_descriptors, heap_stays}
+use Rattle.plain_runs.proofs.Working.{callers_have_room, held_have_room, same_stack, same_descriptors}
 use Rattle.plain_words.specs.Units.{frame_words}
 use Rattle.plain_sends.specs.Services.{with_left}
 

@@ -1,7 +1,7 @@
 -- What a service does to machine and host.
-use Rattle.std.specs.Prelude.{◌≡◌, ℕ, ◌+◌, ◌-◌, ◌%◌, ◌^◌}
+use Rattle.std.specs.Prelude.{ℕ, ◌+◌}
 use Rattle.sparc_store.specs.Words.{Words, with_word}
-use Rattle.sparc_machine.specs.State.{MachineState, with_reg}
+use Rattle.sparc_machine.specs.State.{with_reg}
 use Rattle.sparc_machine.specs.Table.{went}
 use Rattle.plain_runs.specs.Host.{Host}
 

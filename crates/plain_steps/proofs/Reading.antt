@@ -39,7 +39,7 @@ slots_long : (memory : Words) (window : ℕ → ℕ) (sp offset n : ℕ) → len
 slots_long memory window sp offset zero = refl
 slots_long memory window sp offset (suc n) = ap suc (slots_long memory window sp (offset + 4) n)
 
-values_long : (cells : Cells) (p : Places) (vs : List Value) (ws : List ℕ) → AreValues cells p vs ws → length vs ≡ length ws
+pub values_long : (cells : Cells) (p : Places) (vs : List Value) (ws : List ℕ) → AreValues cells p vs ws → length vs ≡ length ws
 values_long cells p [] [] h = refl
 values_long cells p (v ∷ vs) (w ∷ ws) h = ap suc (values_long cells p vs ws h.1)
 values_long cells p [] (w ∷ ws) h = absurd h
