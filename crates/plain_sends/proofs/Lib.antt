@@ -3,3 +3,4 @@ pub mod Behind
 pub mod Resumming
 pub mod Serving
 pub mod Sending
+pub mod Founds
