@@ -86,9 +86,10 @@ behind_call h pc b n node c =
     let next = next_offset r x n node c.node_is in
     let next2 : node_offset r x (n + 1) ≡ node_offset r x (suc n) = ap (node_offset r x) (omega arith) in
     let long : length (node_code r owns locals at node k) ≡ length front + 1 = ap length (call_code r owns locals at node k c.call) ∙ length-append front (answered_code locals (k - taken node)) in
-    let here : m0.machine.pc + 24 + 4 * length front ≡ pc = omega (arith, c.address, next, next2, long) in
-    (let P : ℕ → Type 0 = λ z. At h.machine.memory z (answered_code locals (k - taken node)) in subst P here last,
-    record { aligned = omega (arith, t.1.aligned, here); from = omega (arith, t.1.from, here); to = omega (arith, t.1.to, here, long) })
+    let here : m0.machine.pc + 24 + 4 * length front ≡ pc = omega (arith, c.address, next, next2, long) in (
+      let P : ℕ → Type 0 = λ z. At h.machine.memory z (answered_code locals (k - taken node)) in subst P here last,
+      record { aligned = omega (arith, t.1.aligned, here); from = omega (arith, t.1.from, here); to = omega (arith, t.1.to, here, long) },
+    )
 
 -- The answer in %o0 is pended, and the machine is at the next node's poll.
 pub record PendedBehind (h : Host) (b n j older : ℕ) : Type 0 where

@@ -70,8 +70,8 @@ behind_at h b n node args r call long =
 asks_for : (z : Sense) (h : Host) (s : State) (b n : ℕ) (node : Node) (args receiver k : ℕ) (met : State → Activation → Met) → (f : StandsFor z h s) → (r : RunsAt h b n node) → CanGo h → is_call node ≡ true
     → length (code_at h b n node) ≡ args + 3 → AsksWords h.machine 1 (h.machine.pc + 24 + 4 * (1 + args)) receiver (frame_locals (body_in h.bodies b)) k args
     → ((word : ℕ) → IsData z (met s (at_node_of z h s b n node f r).young) word
-        → (let v = viewed h.machine b n (frame_locals (body_in h.bodies b)) (depth (body_in h.bodies b).nodes n) in
-          RawFollows z (becomes (raw_of h) (Going (moved_on (word ∷ drop (taken node) v.pending) v ∷ callers_of h r.view.older))) (step s) []))
+    → (let v = viewed h.machine b n (frame_locals (body_in h.bodies b)) (depth (body_in h.bodies b).nodes n) in
+    RawFollows z (becomes (raw_of h) (Going (moved_on (word ∷ drop (taken node) v.pending) v ∷ callers_of h r.view.older))) (step s) []))
     → Asks z h s met
 asks_for z h s b n node args receiver k met f r can call long a follows =
     let x = body_in h.bodies b in
@@ -88,23 +88,23 @@ asks_for z h s b n node args receiver k met f r can call long a follows =
       older = at.older;
       running = at.at.here;
       answers = λ goal cost word few is.
-        let v : Served h (data_answers goal cost word (with_machine h a.to)) b n r.view.older word _ _ =
-            served h b n node word goal cost (h.machine.pc + 24 + 4 * (1 + args)) receiver k args r can few a (behind_at h b n node args r call long) (omega (arith, region.to, long)) (omega (arith, takes, depth_is x.nodes n)) in
-        let raw = follows word is in
-        let P : Raw → Type 0 = λ y. Stands raw.to y (step s).state in
-        record {
-          instructions = 1;
-          to = v.to;
-          goes = v.goes;
-          hosted = v.hosted;
-          body = b;
-          number = n + 1;
-          next = v.next;
-          runs = v.runs;
-          sense = raw.to;
-          stands = subst P (sym v.raw) raw.stands;
-          silent = raw.same;
-        };
+          let v : Served h (data_answers goal cost word (with_machine h a.to)) b n r.view.older word _ _ =
+          served h b n node word goal cost (h.machine.pc + 24 + 4 * (1 + args)) receiver k args r can few a (behind_at h b n node args r call long) (omega (arith, region.to, long)) (omega (arith, takes, depth_is x.nodes n)) in
+          let raw = follows word is in
+          let P : Raw → Type 0 = λ y. Stands raw.to y (step s).state in
+          record {
+            instructions = 1;
+            to = v.to;
+            goes = v.goes;
+            hosted = v.hosted;
+            body = b;
+            number = n + 1;
+            next = v.next;
+            runs = v.runs;
+            sense = raw.to;
+            stands = subst P (sym v.raw) raw.stands;
+            silent = raw.same;
+          };
     }
 
 -- the words up to the call
@@ -137,7 +137,7 @@ implied_long locals k j args =
 own_asks : (node : Node) (sel : Selector) (met : State → Activation → Met) → is_call node ≡ true → taken node ≡ sel.args
     → ((r : References) (owns : Bool) (locals at k : ℕ) → node_code r owns locals at node k ≡ implied_code locals (k - sel.args) sel.args ++ answered_code locals (k - sel.args))
     → ((r : Raw) (s : State) (z : Sense) → Stands z r s → (a : Activation) (older : List Activation) (f : Frame) (fs : List Frame) → IsAt r s a older f fs node
-        → IsSend s z a older node (implied sel.args (here_of s a older)) (implied_words sel.args f) sel.name.0 (met s a))
+    → IsSend s z a older node (implied sel.args (here_of s a older)) (implied_words sel.args f) sel.name.0 (met s a))
     → WordsAsk node sel met
 own_asks node sel met call takes code is z h s b n f r can few =
     let m = h.machine in
@@ -156,8 +156,8 @@ own_asks node sel met call takes code is z h s b n f r can few =
     let a = implied_asks m m.pc (frame_words x) locals k sel.args (front_ready m m.pc (frame_words x) (implied_code locals k sel.args) (answered_code locals k) ready) few (omega (arith, room, enough, takes, depth_is x.nodes n)) in
     asks_for z h s b n node sel.args (m.regs 24) k met f r can call (ap length code_is ∙ implied_long locals k k sel.args) a
     (λ word known.
-      let raw = data_follows (raw_of h) s z f.stands at.young at.older v callers node at.at (implied sel.args (here_of s at.young at.older)) (implied_words sel.args v) sel.name.0 (met s at.young) word (is (raw_of h) s z f.stands at.young at.older v callers at.at) known in
-      (let P : ℕ → Type 0 = λ q. RawFollows z (becomes (raw_of h) (Going (moved_on (word ∷ drop q v.pending) v ∷ callers))) (step s) [] in subst P (sym takes) raw))
+    let raw = data_follows (raw_of h) s z f.stands at.young at.older v callers node at.at (implied sel.args (here_of s at.young at.older)) (implied_words sel.args v) sel.name.0 (met s at.young) word (is (raw_of h) s z f.stands at.young at.older v callers at.at) known in
+    (let P : ℕ → Type 0 = λ q. RawFollows z (becomes (raw_of h) (Going (moved_on (word ∷ drop q v.pending) v ∷ callers))) (step s) [] in subst P (sym takes) raw))
 
 pub self_asks : (sel : Selector) → WordsAsk (nodes.SelfSend sel) sel (λ s a. meets s a.receiver sel.name.0)
 self_asks sel = own_asks (nodes.SelfSend sel) sel (λ s a. meets s a.receiver sel.name.0) refl refl (λ r owns locals at k. refl) (λ r s z S a older f fs at. self_send_is r s z S a older f fs sel at)

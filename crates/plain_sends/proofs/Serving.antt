@@ -65,7 +65,7 @@ high_cleared regs word r h = three_others regs word r (other r 8 (omega arith)) 
 pub served : (h : Host) (b n : ℕ) (node : Node) (word goal cost at receiver k args : ℕ) → (r : RunsAt h b n node) → CanGo h → goal ≤ 1000000000
     → (a : Asks h.machine 1 at receiver (frame_locals (body_in h.bodies b)) k args) → IsBehindCall h (at + 4) b n node → at + 8 < 2 ^ 32 → taken node ≤ depth_from 0 (body_in h.bodies b).nodes n
     → (let f = viewed h.machine b n (frame_locals (body_in h.bodies b)) (depth (body_in h.bodies b).nodes n) in
-      Served h (data_answers goal cost word (with_machine h a.to)) b n r.view.older word (drop (taken node) f.pending) f)
+    Served h (data_answers goal cost word (with_machine h a.to)) b n r.view.older word (drop (taken node) f.pending) f)
 served h b n node word goal cost at receiver k args r can few a behind low takes =
     let m = h.machine in
     let x = body_in h.bodies b in
@@ -106,20 +106,20 @@ served h b n node word goal cost at receiver k args r can few a behind low takes
     let window = kept m.regs in
     let same : SameBetween sp (sp + 4 * words) m.memory m1.memory = λ q from to. whole1.others q (λ e. absurd (omega (arith, e, from, r.view.frame.place.1))) (λ e. absurd (omega (arith, e, from, r.view.frame.place.1))) in
     let frame_same : f1 ≡ record f { pending = drop (taken node) f.pending } =
-        ap (λ z. shown m1.memory z (m1.regs 14) d1) (window_same m1.regs m.regs st.window)
-        ∙ ap (λ z. shown m1.memory window z d1) st.frame
-        ∙ shown_same m.memory m1.memory window sp (4 * words) d1 (plain_fits words b n locals j (omega (arith, room, dd))) same
-        ∙ ap (λ z. shown m.memory window sp (plain_descriptor b n locals (z - taken node))) (sym dd)
-        ∙ older_ones m.memory window sp b n locals (taken node) k1 (omega (arith, takes, dd)) in
+    ap (λ z. shown m1.memory z (m1.regs 14) d1) (window_same m1.regs m.regs st.window)
+    ∙ ap (λ z. shown m1.memory window z d1) st.frame
+    ∙ shown_same m.memory m1.memory window sp (4 * words) d1 (plain_fits words b n locals j (omega (arith, room, dd))) same
+    ∙ ap (λ z. shown m.memory window sp (plain_descriptor b n locals (z - taken node))) (sym dd)
+    ∙ older_ones m.memory window sp b n locals (taken node) k1 (omega (arith, takes, dd)) in
     let moved : p.now ≡ moved_on (word ∷ drop (taken node) f.pending) f = p.shows ∙ ap {A = Frame} (λ z. record z { next = n + 1; pending = word ∷ z.pending }) frame_same in
     let h2 = with_machine h t2 in
     let threads : threads_from h2 0 h.statuses ≡ slice_set (threads_from h 0 h.statuses) h.current (Going (moved_on (word ∷ drop (taken node) f.pending) f ∷ callers_of h r.view.older)) =
-        p.view.threads
-        ∙ ap (λ z. slice_set z h.current (Going (p.now ∷ callers_of hm still.view.older))) (threads_set h hm 0 h.current h.statuses r.view.sp r.view.pc r.view.known refl (omega arith) r.view.running still.waits)
-        ∙ set_set (threads_from h 0 h.statuses) h.current (Going (seen hm)) (Going (p.now ∷ callers_of hm still.view.older))
-        ∙ ap (λ z. slice_set (threads_from h 0 h.statuses) h.current (Going (p.now ∷ callers_of hm z))) still.deep
-        ∙ ap (λ z. slice_set (threads_from h 0 h.statuses) h.current (Going (p.now ∷ z))) still.callers
-        ∙ ap (λ z. slice_set (threads_from h 0 h.statuses) h.current (Going (z ∷ callers_of h r.view.older))) moved in
+    p.view.threads
+    ∙ ap (λ z. slice_set z h.current (Going (p.now ∷ callers_of hm still.view.older))) (threads_set h hm 0 h.current h.statuses r.view.sp r.view.pc r.view.known refl (omega arith) r.view.running still.waits)
+    ∙ set_set (threads_from h 0 h.statuses) h.current (Going (seen hm)) (Going (p.now ∷ callers_of hm still.view.older))
+    ∙ ap (λ z. slice_set (threads_from h 0 h.statuses) h.current (Going (p.now ∷ callers_of hm z))) still.deep
+    ∙ ap (λ z. slice_set (threads_from h 0 h.statuses) h.current (Going (p.now ∷ z))) still.callers
+    ∙ ap (λ z. slice_set (threads_from h 0 h.statuses) h.current (Going (z ∷ callers_of h r.view.older))) moved in
     record {
       to = t2;
       goes = p.goes;

@@ -94,10 +94,10 @@ settles h to b goal r hosted run s =
     let laid = laid_as (IsCaller h) (IsCaller h2) (entry_frame h.current) ending_stub to.memory r.older (m.regs 30) w (m.regs 31 + 8) (but_first m.older) (λ q a f x. caller_kept h to q a f low x) rest.1 in
     let P : ℕ → ℕ → Window → List Window → Type 0 = λ x y v z. AreLaid (IsCaller h2) (entry_frame h.current) ending_stub to.memory r.older x v (y + 8) z in
     let laid2 : P (to.regs 30) (to.regs 31) (frame_before to.memory (to.regs 30) to.older) (but_first to.older) =
-        subst (λ x. P x (to.regs 31) (frame_before to.memory x to.older) (but_first to.older)) (sym e30)
-        (subst (λ y. P (m.regs 30) y (frame_before to.memory (m.regs 30) to.older) (but_first to.older)) (sym e31)
-        (subst (λ z. P (m.regs 30) (m.regs 31) (frame_before to.memory (m.regs 30) z) (but_first z)) (sym s.older)
-        (subst (λ v. P (m.regs 30) (m.regs 31) v (but_first m.older)) (sym before) laid))) in
+    subst (λ x. P x (to.regs 31) (frame_before to.memory x to.older) (but_first to.older)) (sym e30)
+    (subst (λ y. P (m.regs 30) y (frame_before to.memory (m.regs 30) to.older) (but_first to.older)) (sym e31)
+    (subst (λ z. P (m.regs 30) (m.regs 31) (frame_before to.memory (m.regs 30) z) (but_first z)) (sym s.older)
+    (subst (λ v. P (m.regs 30) (m.regs 31) v (but_first m.older)) (sym before) laid))) in
     record {
       hosted = record {
         within = s.memory.within;
@@ -107,12 +107,12 @@ settles h to b goal r hosted run s =
         stub = stub_kept (Trap 9 ∷ []) h to ending_stub low (omega arith) hosted.stub;
         activities = hosted.activities;
         others = λ k sp pc n is ne.
-          let l = hosted.others k sp pc n is ne in
-          let up = stack_high k sp (same_stack (descriptor_at h) (IsHeld h) (entry_frame k) ending_stub m.memory n sp (saved_at m.memory sp) pc [] held l) in
-          let top = ends_below (descriptor_at h) (IsHeld h) (entry_frame k) ending_stub m.memory n sp (saved_at m.memory sp) pc [] held l in
-          let q = (rests (descriptor_at h) (IsHeld h) (entry_frame k) ending_stub m.memory to.memory n sp (saved_at m.memory sp) pc [] held l (high_same h to goal sp (entry_frame k + 64) s up)).1 in
-          let q2 = laid_as (IsHeld h) (IsHeld h2) (entry_frame k) ending_stub to.memory n sp (saved_at m.memory sp) pc [] (λ u a f x. held_kept h to u a f low x) q in
-          (let Q : Window → Type 0 = λ v. AreLaid (IsHeld h2) (entry_frame k) ending_stub to.memory n sp v pc [] in subst Q (sym (saved_same m.memory to.memory sp (high_same h to goal sp (sp + 64) s up))) q2);
+            let l = hosted.others k sp pc n is ne in
+            let up = stack_high k sp (same_stack (descriptor_at h) (IsHeld h) (entry_frame k) ending_stub m.memory n sp (saved_at m.memory sp) pc [] held l) in
+            let top = ends_below (descriptor_at h) (IsHeld h) (entry_frame k) ending_stub m.memory n sp (saved_at m.memory sp) pc [] held l in
+            let q = (rests (descriptor_at h) (IsHeld h) (entry_frame k) ending_stub m.memory to.memory n sp (saved_at m.memory sp) pc [] held l (high_same h to goal sp (entry_frame k + 64) s up)).1 in
+            let q2 = laid_as (IsHeld h) (IsHeld h2) (entry_frame k) ending_stub to.memory n sp (saved_at m.memory sp) pc [] (λ u a f x. held_kept h to u a f low x) q in
+            (let Q : Window → Type 0 = λ v. AreLaid (IsHeld h2) (entry_frame k) ending_stub to.memory n sp v pc [] in subst Q (sym (saved_same m.memory to.memory sp (high_same h to goal sp (sp + 64) s up))) q2);
         goal = omega (arith, s.memory.goal_is, s.few);
       };
       view = record {
@@ -128,16 +128,16 @@ settles h to b goal r hosted run s =
       };
       deep = refl;
       waits = λ k sp pc n is ne.
-        let l = hosted.others k sp pc n is (λ e. ne (omega (arith, e))) in
-        let up = stack_high k sp (same_stack (descriptor_at h) (IsHeld h) (entry_frame k) ending_stub m.memory n sp (saved_at m.memory sp) pc [] held l) in
-        ap (λ d. activations d to.memory n sp (saved_at to.memory sp) pc []) (same_descriptors h to)
-        ∙ ap (λ v. activations (descriptor_at h) to.memory n sp v pc []) (saved_same m.memory to.memory sp (high_same h to goal sp (sp + 64) s up))
-        ∙ (rests (descriptor_at h) (IsHeld h) (entry_frame k) ending_stub m.memory to.memory n sp (saved_at m.memory sp) pc [] held l (high_same h to goal sp (entry_frame k + 64) s up)).0;
+          let l = hosted.others k sp pc n is (λ e. ne (omega (arith, e))) in
+          let up = stack_high k sp (same_stack (descriptor_at h) (IsHeld h) (entry_frame k) ending_stub m.memory n sp (saved_at m.memory sp) pc [] held l) in
+          ap (λ d. activations d to.memory n sp (saved_at to.memory sp) pc []) (same_descriptors h to)
+          ∙ ap (λ v. activations (descriptor_at h) to.memory n sp v pc []) (saved_same m.memory to.memory sp (high_same h to goal sp (sp + 64) s up))
+          ∙ (rests (descriptor_at h) (IsHeld h) (entry_frame k) ending_stub m.memory to.memory n sp (saved_at m.memory sp) pc [] held l (high_same h to goal sp (entry_frame k + 64) s up)).0;
       callers =
-        ap (λ d. activations d to.memory r.older (to.regs 30) (frame_before to.memory (to.regs 30) to.older) (to.regs 31 + 8) (but_first to.older)) (same_descriptors h to)
-        ∙ ap (λ x. activations (descriptor_at h) to.memory r.older x (frame_before to.memory x to.older) (to.regs 31 + 8) (but_first to.older)) e30
-        ∙ ap (λ y. activations (descriptor_at h) to.memory r.older (m.regs 30) (frame_before to.memory (m.regs 30) to.older) (y + 8) (but_first to.older)) e31
-        ∙ ap (λ z. activations (descriptor_at h) to.memory r.older (m.regs 30) (frame_before to.memory (m.regs 30) z) (m.regs 31 + 8) (but_first z)) s.older
-        ∙ ap (λ v. activations (descriptor_at h) to.memory r.older (m.regs 30) v (m.regs 31 + 8) (but_first m.older)) before
-        ∙ rest.0;
+          ap (λ d. activations d to.memory r.older (to.regs 30) (frame_before to.memory (to.regs 30) to.older) (to.regs 31 + 8) (but_first to.older)) (same_descriptors h to)
+          ∙ ap (λ x. activations (descriptor_at h) to.memory r.older x (frame_before to.memory x to.older) (to.regs 31 + 8) (but_first to.older)) e30
+          ∙ ap (λ y. activations (descriptor_at h) to.memory r.older (m.regs 30) (frame_before to.memory (m.regs 30) to.older) (y + 8) (but_first to.older)) e31
+          ∙ ap (λ z. activations (descriptor_at h) to.memory r.older (m.regs 30) (frame_before to.memory (m.regs 30) z) (m.regs 31 + 8) (but_first z)) s.older
+          ∙ ap (λ v. activations (descriptor_at h) to.memory r.older (m.regs 30) v (m.regs 31 + 8) (but_first m.older)) before
+          ∙ rest.0;
     }
