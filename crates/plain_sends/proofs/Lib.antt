@@ -1,0 +1,6 @@
+pub mod Settling
+pub mod Behind
+pub mod Resumming
+pub mod Serving
+pub mod Sending
+pub mod Founds

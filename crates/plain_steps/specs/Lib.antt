@@ -1,0 +1,2 @@
+-- Plain code against the source.
+pub mod Steps

@@ -1,0 +1,25 @@
+// Laws of plain code against the source.
+ghost use Rattle.std.specs.Prelude.{ℕ, ℤ, ◌<◌, length};
+ghost use Rattle.self_terms.specs.Words.{IsSmall};
+ghost use Rattle.self_terms.specs.declared.nodes.Node.TheVariants as nodes;
+ghost use Rattle.plain_steps.specs.Steps.{Always, WordsAnswer, WordsDo, WordsEnd, WordsRead, WordsStore};
+
+/// A law: the words of a node do the source's step.
+pub fn words_do_steps()
+    ensures int { (i : ℤ) → IsSmall i → WordsDo (nodes.Int i) Always }
+    ensures string { (o : ℕ) → WordsDo (nodes.Str o) (λ s. o < length s.things) }
+    ensures nil { WordsDo nodes.Nil Always }
+    ensures receiver { WordsDo nodes.SelfRef Always }
+    ensures discard { WordsDo nodes.Drop Always }
+    ensures restart { WordsDo nodes.Restart Always }
+    ensures read { (slot : ℕ) → WordsRead slot }
+    ensures store { (slot : ℕ) → WordsStore slot }
+    ensures answer { WordsAnswer nodes.Return }
+    ensures end { WordsAnswer nodes.End }
+{}
+
+/// A law: the words of a node that ends the oldest activation of an activity do the source's step, once service 9 has told its answer.
+pub fn words_end_activities()
+    ensures answer { WordsEnd nodes.Return }
+    ensures end { WordsEnd nodes.End }
+{}
