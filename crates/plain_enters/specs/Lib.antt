@@ -1,0 +1,2 @@
+-- Methods entered in plain code.
+pub mod Entering
