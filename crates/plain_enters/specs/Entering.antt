@@ -1,17 +1,13 @@
 -- What the frame of an entered method shows, and the room for it.
 use Rattle.std.specs.Prelude.{◌≡◌, ℕ, ◌+◌, ◌-◌, ◌*◌, ◌<◌, ◌≤◌, List, [], length}
-use Rattle.sparc_store.specs.Words.{Words, with_word, HasFrame, IsWithin}
+use Rattle.sparc_store.specs.Words.{Words, HasFrame, IsWithin}
 use Rattle.sparc_store.specs.Chain.{ChangedIn}
 use Rattle.source_model.specs.Soundness.{body_in}
-use Rattle.frame_walk.specs.Places.{shown, plain_descriptor, holder_offset, local_offset}
-use Rattle.plain_words.specs.Moves.{with_words}
+use Rattle.frame_walk.specs.Places.{shown, plain_descriptor}
 use Rattle.plain_words.specs.Units.{frame_words}
 use Rattle.plain_runs.specs.Host.{Host}
+use Rattle.plain_runs.specs.Services.{filled}
 use Rattle.plain_runs.specs.Sound.{InFrame}
-
--- memory when a method has filled its frame, over memory when SAVE was done: the holder, and its arguments and locals
-abbrev pub filled : Words → ℕ → ℕ → List ℕ → Words
-filled memory place holder words = with_words (with_word memory (place + holder_offset) holder) (place + local_offset 0) words
 
 -- The frame shows these, over any window, and memory has changed in it alone.
 abbrev pub FilledShows : Type 0
@@ -20,7 +16,7 @@ FilledShows = (memory : Words) (window : ℕ → ℕ) (place words holder body :
     ≡ record { body = body; next = 0; receiver = window 8; holder = holder; outer = window 0; context = window 1; mark = place; locals = ws; pending = [] })
     × ChangedIn place (4 * words) memory (filled memory place holder ws) × IsWithin (filled memory place holder ws)
 
--- the words of the largest frame of a body
+-- no body's frame has more words
 abbrev pub largest_frame : ℕ
 largest_frame = 330
 

@@ -19,7 +19,7 @@ use Rattle.plain_words.specs.Units.{unit_code}
 use Rattle.plain_runs.specs.Course.{with_machine}
 use Rattle.plain_runs.specs.Host.{Host, Status, Waiting, Answered, Failed, seen, waiting, thread_of, threads_from, descriptor_at, heap_words}
 use Rattle.plain_runs.specs.Units.{HasUnit, IsPoll, IsInPoll, IsBehindCall}
-use Rattle.plain_runs.specs.Sound.{IsRoomy, IsCaller, IsHeld, Calls, Polls, IsRunnable}
+use Rattle.plain_runs.specs.Sound.{IsRoomy, IsCaller, IsHeld, Calls, Polls}
 
 -- nothing below the heap is changed
 abbrev pub SameCode : Words → Words → Type 0
@@ -56,7 +56,7 @@ pub held_kept : (h : Host) (m : MachineState) (pc sp fp : ℕ) → SameCode h.ma
 held_kept h m pc sp fp same (Calls c) = Calls (caller_kept h m pc sp fp same c)
 held_kept h m pc sp fp same (Polls b n p run room) =
     Polls b n (record { at = p.at; word = p.word; unit = unit_kept h m b p.at same p.unit; inside = p.inside; within = p.within; address = p.address })
-    (record { takes = run.takes; room = run.room; ends = run.ends }) (record { ends = room.ends; place = room.place })
+    run (record { ends = room.ends; place = room.place })
 
 -- Threads.
 

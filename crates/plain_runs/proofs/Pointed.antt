@@ -1,21 +1,19 @@
 -- What the program counter of a frame says of it.
-use Rattle.std.proofs.Common.{◌≡◌, ℕ, zero, suc, ◌+◌, ◌-◌, ◌*◌, ◌/◌, ◌%◌, ◌<◌, ◌≤◌, refl, ◌∙◌, ap, sym, subst, arith, length-append}
-use Rattle.std.specs.Prelude.{Bool, true, false, if◌then◌else◌, List, [], ◌∷◌, ◌++◌, length, Option, Some, None, slice_get, get_or}
-use Rattle.std.proofs.lemmas.Grind.{common_steps}
+use Rattle.std.proofs.Common.{◌≡◌, ℕ, zero, suc, ◌+◌, ◌-◌, ◌*◌, ◌/◌, ◌<◌, ◌≤◌, ◌∙◌, ap, sym, arith, length-append}
+use Rattle.std.specs.Prelude.{Bool, true, false, not, if◌then◌else◌, List, [], ◌∷◌, ◌++◌, length, Some, slice_get, get_or}
 use Rattle.self_terms.specs.declared.nodes.Node.{Node}
 use Rattle.self_terms.specs.declared.nodes.Node.TheVariants as nodes
 use Rattle.self_terms.specs.declared.bodies.Body.{Body}
-use Rattle.self_terms.specs.Depths.{taken, grown, depth, depth_from}
+use Rattle.self_terms.specs.Depths.{one_if, taken, grown, depth, depth_from}
 use Rattle.source_model.specs.Soundness.{body_in}
-use Rattle.frame_walk.specs.Places.{Place, Slot, Descriptor, plain_descriptor, slots_from, pending_places, pending_offset, local_offset, holder_offset}
-use Rattle.frame_walk.specs.Walk.{IsInside, AreInside, Fits, IsFrameOf}
-use Rattle.plain_words.specs.Code.{poll}
+use Rattle.frame_walk.specs.Places.{plain_descriptor}
+use Rattle.plain_words.specs.Code.{poll, primitive_code, answered_code}
 use Rattle.plain_words.specs.declared.references.References.{References}
 use Rattle.plain_words.specs.declared.units.Point.{Point}
-use Rattle.plain_words.specs.Units.{node_code, nodes_code, node_points, nodes_points, entry_code, unit_code, unit_points, owns_context, frame_locals, frame_words, is_call, times, point_descriptor}
+use Rattle.plain_words.specs.Units.{node_code, nodes_code, node_points, nodes_points, entry_code, unit_code, unit_points, owns_context, frame_locals, is_call, times, point_descriptor}
 use Rattle.plain_runs.specs.Host.{Host, first_unit, point_at, descriptor_at}
 use Rattle.plain_runs.specs.Units.{words_before, node_offset, HasUnit, IsPoll, IsInPoll, IsBehindCall}
-use Rattle.plain_runs.proofs.Located.{some_is, words_next, words_within, none_before, slice_front, slice_behind, times_is, times_long}
+use Rattle.plain_runs.proofs.Located.{some_is, words_next, words_within, slice_front, slice_behind, times_is, times_long}
 
 node_points_long : (b : Bool) (body n pending k words : ℕ) → 0 < words
     → length (if b then times (words - 1) (record { body = body; node = n; pending = k }) ++ (record { body = body; node = n; pending = pending } ∷ []) else times words (record { body = body; node = n; pending = k })) ≡ words
@@ -164,6 +162,10 @@ some_code r owns locals at (nodes.Read zero slot) k = omega arith
 some_code r owns locals at (nodes.Read (suc up) slot) k = omega arith
 some_code r owns locals at (nodes.Store zero slot) k = omega arith
 some_code r owns locals at (nodes.Store (suc up) slot) k = omega arith
+some_code r owns locals at (nodes.Prim name args implied handler) k =
+    let first = k - (args + one_if (not implied) + one_if handler) in
+    let code = primitive_code name.0 args implied locals first (args + one_if handler) in
+    omega (arith, length-append code (answered_code locals first))
 some_code r owns locals at _ k = omega arith
 
 pub in_poll_descriptor : (h : Host) (pc b n : ℕ) (node : Node) → IsInPoll h pc b n → slice_get (body_of h b).nodes n ≡ Some node

@@ -1,42 +1,42 @@
 -- An activation answers its caller.
-use Rattle.std.proofs.Common.{◌≡◌, ◌≢◌, ◌⊎◌, ℕ, zero, suc, ◌+◌, ◌-◌, ◌*◌, ◌/◌, ◌%◌, ◌^◌, ◌<◌, ◌≤◌, refl, ◌∙◌, ap, sym, subst, arith, inl, inr, length-append}
-use Rattle.std.specs.Prelude.{Bool, true, false, if◌then◌else◌, nat_lt, List, [], ◌∷◌, ◌++◌, length, Option, Some, None, slice_get, slice_set, All}
+use Rattle.std.proofs.Common.{◌≡◌, ℕ, zero, suc, ◌+◌, ◌-◌, ◌*◌, ◌<◌, ◌≤◌, refl, ◌∙◌, ap, sym, subst, arith, length-append}
+use Rattle.std.specs.Prelude.{Bool, true, not, false, if◌then◌else◌, nat_lt, List, [], ◌∷◌, ◌++◌, length, Some, slice_get, slice_set, All}
 use Rattle.std.proofs.lemmas.Option.{slice_get_within}
 use Rattle.std.proofs.lemmas.Grind.{common_steps}
 use Rattle.std.proofs.lemmas.List.Elements.{All-head, All-tail}
 use Rattle.self_terms.specs.declared.nodes.Node.{Node}
 use Rattle.self_terms.specs.declared.nodes.Node.TheVariants as nodes
-use Rattle.self_terms.specs.Depths.{taken, left_by, grown, depth, depth_from, is_inner}
+use Rattle.self_terms.specs.Depths.{one_if, taken, grown, depth, depth_from, is_inner}
 use Rattle.sparc_insn.specs.declared.insn.Insn.{Insn}
 use Rattle.sparc_insn.specs.declared.insn.Insn.TheVariants.{Trap}
-use Rattle.sparc_store.specs.Words.{Words, word_at, with_word, HasFrame, HasWord, IsWithin}
+use Rattle.sparc_store.specs.Words.{Words, word_at, with_word, HasFrame, IsWithin}
 use Rattle.sparc_store.specs.Windows.{Frame as Window, kept, saved_at, frame_before, but_first}
 use Rattle.sparc_store.proofs.Placed.{put_stays_within}
 use Rattle.sparc_machine.specs.State.{MachineState}
-use Rattle.sparc_machine.specs.Alu.{add, sub}
+use Rattle.sparc_machine.specs.Alu.{add}
 use Rattle.frame_walk.specs.Places.{Descriptor, Frame, shown, plain_descriptor, pending_offset}
-use Rattle.frame_walk.specs.Raw.{Thread, Going, moved_on, answered_to}
-use Rattle.frame_walk.specs.Walk.{activations, AreLaid, Frames}
+use Rattle.frame_walk.specs.Raw.{Going, moved_on, answered_to}
+use Rattle.frame_walk.specs.Walk.{activations, AreLaid}
 use Rattle.frame_walk.proofs.Resting.{laid_as}
 use Rattle.source_model.specs.Soundness.{body_in}
-use Rattle.plain_words.specs.Going.{Goes, At, StandsAt, IsCodeFrom}
-use Rattle.plain_words.specs.Code.{poll, answered_code, send_code, implied_code}
-use Rattle.plain_words.specs.Moves.{is_scratch, Ends, Returned, Moved, pended}
+use Rattle.plain_words.specs.Going.{At, StandsAt, IsCodeFrom}
+use Rattle.plain_words.specs.Code.{poll, answered_code, send_code, implied_code, primitive_code}
+use Rattle.plain_words.specs.Moves.{Ends, Moved, pended}
 use Rattle.plain_words.specs.Showing.{viewed}
 use Rattle.plain_words.specs.declared.references.References.{References}
 use Rattle.plain_words.specs.Units.{node_code, owns_context, frame_locals, frame_words, is_call}
 use Rattle.plain_words.proofs.Basics.{at_behind, goes_then}
-use Rattle.plain_words.proofs.Straight.{straight, goes_straight, straight_spares, straight_older}
+use Rattle.plain_words.proofs.Straight.{straight, goes_straight, straight_spares}
 use Rattle.plain_words.proofs.Placing.{placed}
-use Rattle.plain_words.proofs.Shown.{pended_shows, moved_window}
-use Rattle.plain_runs.specs.Course.{with_machine, AllRun, AnswersCaller, CanGo, AnswerFollows}
-use Rattle.plain_runs.specs.Host.{Host, Status, Waiting, seen, waiting, threads_from, descriptor_at, heap_words}
-use Rattle.plain_runs.specs.Units.{words_before, node_offset, HasUnit, IsPoll, IsBehindCall}
-use Rattle.plain_runs.specs.Sound.{IsWindow, IsRoomy, IsCaller, IsHeld, IsRunnable, InFrame, RunsAt, IsHosted, GoesOn, callers_of, entry_frame, ending_stub}
-use Rattle.plain_runs.proofs.Located.{nodes_at, some_is}
+use Rattle.plain_words.proofs.Shown.{pended_shows}
+use Rattle.plain_runs.specs.Course.{with_machine, AllRun, AnswersCaller, AnswerFollows}
+use Rattle.plain_runs.specs.Host.{Host, seen, threads_from, descriptor_at, heap_words}
+use Rattle.plain_runs.specs.Units.{words_before, node_offset, IsPoll, IsBehindCall}
+use Rattle.plain_runs.specs.Sound.{IsWindow, IsCaller, IsHeld, InFrame, IsHosted, callers_of, entry_frame, ending_stub}
+use Rattle.plain_runs.proofs.Located.{some_is}
 use Rattle.plain_runs.proofs.Pointed.{next_offset, call_descriptor}
 use Rattle.plain_runs.proofs.Keeping.{unit_kept, stub_kept, caller_kept, held_kept, threads_set, OthersWait}
-use Rattle.plain_runs.proofs.Working.{run_kept, ChangedInView, code_same, heap_stays, same_descriptors, view_on, ViewOn}
+use Rattle.plain_runs.proofs.Working.{run_kept, ChangedInView, code_same, heap_stays, same_descriptors, view_on}
 use Rattle.plain_runs.proofs.Ready.{there_at}
 
 -- Memory that didn't change at all.
@@ -62,10 +62,11 @@ hosted_same h to e zero_is windows x = record {
 -- What stands behind a call: the answer is pended.
 
 abbrev call_front : References → Bool → ℕ → ℕ → Node → ℕ → List Insn
-call_front r owns locals at (nodes.Send sel) k = send_code locals (k - (sel.args + 1)) sel.args
-call_front r owns locals at (nodes.SelfSend sel) k = implied_code locals (k - sel.args) sel.args
-call_front r owns locals at (nodes.Resend sel) k = implied_code locals (k - sel.args) sel.args
-call_front r owns locals at (nodes.Directed parent sel) k = implied_code locals (k - sel.args) sel.args
+call_front r owns locals at (nodes.Send sel) k = send_code 1 locals (k - (sel.args + 1)) sel.args
+call_front r owns locals at (nodes.SelfSend sel) k = implied_code 1 locals (k - sel.args) sel.args
+call_front r owns locals at (nodes.Resend sel) k = implied_code 1 locals (k - sel.args) sel.args
+call_front r owns locals at (nodes.Directed parent sel) k = implied_code 1 locals (k - sel.args) sel.args
+call_front r owns locals at (nodes.Prim name args implied handler) k = primitive_code name.0 args implied locals (k - (args + one_if (not implied) + one_if handler)) (args + one_if handler)
 call_front r owns locals at _ k = []
 
 call_code : (r : References) (owns : Bool) (locals at : ℕ) (node : Node) (k : ℕ) → is_call node ≡ true → node_code r owns locals at node k ≡ call_front r owns locals at node k ++ answered_code locals (k - taken node)
@@ -73,6 +74,7 @@ call_code r owns locals at (nodes.Send sel) k e = refl
 call_code r owns locals at (nodes.SelfSend sel) k e = refl
 call_code r owns locals at (nodes.Resend sel) k e = refl
 call_code r owns locals at (nodes.Directed parent sel) k e = refl
+call_code r owns locals at (nodes.Prim name args implied handler) k e = refl
 call_code r owns locals at _ k e = absurd (cc)
 
 -- a call leaves one value
@@ -81,6 +83,7 @@ call_leaves (nodes.Send sel) k e h = refl
 call_leaves (nodes.SelfSend sel) k e h = refl
 call_leaves (nodes.Resend sel) k e h = refl
 call_leaves (nodes.Directed parent sel) k e h = refl
+call_leaves (nodes.Prim name args implied handler) k e h = refl
 call_leaves _ k e h = absurd (cc)
 
 -- the word there, and that it is in the code region
@@ -151,7 +154,7 @@ before_window : (memory : Words) (at : ℕ) (held : List Window) → All IsWindo
 before_window memory at [] all k h = saved_window memory at k h
 before_window memory at (f ∷ fs) all k h = All-head IsWindow f fs all k h
 
-rest_windows : (held : List Window) → All IsWindow held → All IsWindow (but_first held)
+pub rest_windows : (held : List Window) → All IsWindow held → All IsWindow (but_first held)
 rest_windows [] all = all
 rest_windows (f ∷ fs) all = All-tail IsWindow f fs all
 
@@ -161,6 +164,11 @@ by_low regs w k false e low high = sym (high k (is_higher k e))
 
 window_in_view : (regs w : ℕ → ℕ) → ((j : ℕ) → j < 16 → regs (16 + j) ≡ w j) → ((j : ℕ) → 16 ≤ j → w j ≡ 0) → kept regs ≡ w
 window_in_view regs w low high = λ i k. by_low regs w k (nat_lt k 16) refl low high i
+
+-- one window less is held
+shorter : (held : List Window) → length (but_first held) ≤ length held - 1
+shorter [] = omega arith
+shorter (f ∷ fs) = omega arith
 
 depth_is : (nodes : List Node) (n : ℕ) → depth nodes n ≡ depth_from 0 nodes n
 unfolding depth
@@ -183,6 +191,7 @@ call_inner (nodes.Send sel) e = refl
 call_inner (nodes.SelfSend sel) e = refl
 call_inner (nodes.Resend sel) e = refl
 call_inner (nodes.Directed parent sel) e = refl
+call_inner (nodes.Prim name args implied handler) e = refl
 call_inner _ e = absurd (cc)
 
 pub answer_follows : (h : Host) (b o answer : ℕ) → (r : InFrame h b) → IsHosted h → AllRun h → h.current < 4 → h.machine.regs 2 < word_at h.machine.memory 0x30000000 → r.older ≡ suc o
@@ -216,6 +225,7 @@ answer_follows h b o answer r hosted run low left deep e =
       older = o;
       count = R.activations ∙ omega (arith, r.count, deep, r.few);
       few = omega (arith, r.few, deep);
+      held = (let P : List Window → Type 0 = λ x. length x ≤ suc o in subst P (sym R.older) (omega (arith, shorter m.older, r.held, deep)));
       callers =
           let tail = laid_as (IsCaller h) (IsCaller h1) (entry_frame h.current) ending_stub mem o (w 14) (frame_before mem (w 14) (but_first m.older)) (w 15 + 8) (but_first (but_first m.older)) (λ q s f y. caller_kept h t1 q s f (λ a below. ap (λ z. word_at z a) R.memory_is) y) l.1 in
           let P : Words → ℕ → ℕ → List Window → Type 0 = λ z x y held. AreLaid (IsCaller h1) (entry_frame h.current) ending_stub z o x (frame_before z x held) (y + 8) (but_first held) in
@@ -292,10 +302,12 @@ answer_follows h b o answer r hosted run low left deep e =
     let counted : t2.regs 2 ≡ m.regs 2 + 1 = R.counted ∙ omega (arith, left, hosted.goal) in
     record {
       instructions = e.instructions + 1;
+      few = omega (arith, e.few);
       to = t2;
       goes = goes_then e.instructions 1 m t1 t2 e.goes g.0;
       on = record {
         hosted = v.hosted;
+        goal = v.goal ∙ ap (λ z. word_at z 0x30000000) R.memory_is;
         raw = λ i. record {
           maps = h.maps;
           mem = (ch.heap ∙ ap heap_words R.memory_is) i;

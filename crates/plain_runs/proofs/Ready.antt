@@ -1,29 +1,28 @@
 -- Nodes that are done in words, and leave their frame in view.
-use Rattle.std.proofs.Common.{◌≡◌, ◌≢◌, ◌⊎◌, ℕ, zero, suc, ◌+◌, ◌-◌, ◌*◌, ◌/◌, ◌%◌, ◌^◌, ◌<◌, ◌≤◌, refl, ◌∙◌, ap, sym, subst, arith, inl, inr, length-append}
-use Rattle.std.specs.Prelude.{Bool, true, false, List, [], ◌∷◌, ◌++◌, length, Option, Some, None, slice_get, drop}
+use Rattle.std.proofs.Common.{◌≡◌, ℕ, suc, ◌+◌, ◌*◌, ◌%◌, ◌^◌, ◌<◌, ◌≤◌, refl, ◌∙◌, ap, sym, subst, arith}
+use Rattle.std.specs.Prelude.{◌∷◌, ◌++◌, length, Some, slice_get, drop}
 use Rattle.std.proofs.lemmas.Option.{slice_get_within}
 use Rattle.self_terms.specs.declared.nodes.Node.{Node}
-use Rattle.self_terms.specs.Depths.{taken, grown, depth, depth_from}
-use Rattle.sparc_insn.specs.declared.insn.Insn.{Insn}
-use Rattle.sparc_store.specs.Words.{Words, word_at, with_word, HasFrame, HasWord, IsWithin}
+use Rattle.self_terms.specs.Depths.{depth, depth_from}
+use Rattle.sparc_store.specs.Words.{Words, word_at, IsWithin}
 use Rattle.sparc_store.proofs.Placed.{put_stays_within}
 use Rattle.sparc_machine.specs.State.{MachineState}
-use Rattle.frame_walk.specs.Places.{Frame, pending_offset}
-use Rattle.frame_walk.specs.Raw.{Thread, Going, moved_on}
-use Rattle.frame_walk.specs.Walk.{Frames}
+use Rattle.frame_walk.specs.Places.{pending_offset}
+use Rattle.frame_walk.specs.Raw.{Going, moved_on}
 use Rattle.source_model.specs.Soundness.{body_in}
-use Rattle.plain_words.specs.Going.{Goes, At, StandsAt, IsCodeFrom}
+use Rattle.plain_words.specs.Going.{At, StandsAt, IsCodeFrom}
 use Rattle.plain_words.specs.Code.{poll}
-use Rattle.plain_words.specs.Moves.{IsReady, Does, Moved, pended}
+use Rattle.plain_words.specs.Moves.{IsReady, Does, pended}
 use Rattle.plain_words.specs.Showing.{viewed}
-use Rattle.plain_words.specs.Units.{node_code, nodes_code, entry_code, unit_code, owns_context, frame_locals, frame_words}
+use Rattle.plain_words.specs.Units.{node_code, nodes_code, entry_code, owns_context, frame_locals, frame_words}
 use Rattle.plain_words.proofs.Basics.{at_behind}
+use Rattle.plain_words.proofs.Long.{node_long}
 use Rattle.plain_words.proofs.Shown.{pended_shows, left_shows}
-use Rattle.plain_runs.specs.Course.{with_machine, AllRun, code_at, Follows, CanGo, PendedFollows, DroppedFollows}
-use Rattle.plain_runs.specs.Host.{Host, descriptor_at, heap_words}
+use Rattle.plain_runs.specs.Course.{with_machine, AllRun, code_at, Follows, PendedFollows, DroppedFollows}
+use Rattle.plain_runs.specs.Host.{Host, heap_words}
 use Rattle.plain_runs.specs.Units.{words_before, node_offset, HasUnit, IsPoll}
-use Rattle.plain_runs.specs.Sound.{IsHeld, IsRunnable, RunsAt, IsHosted, GoesOn, callers_of}
-use Rattle.plain_runs.proofs.Located.{nodes_at, words_within}
+use Rattle.plain_runs.specs.Sound.{RunsAt, IsHosted, callers_of}
+use Rattle.plain_runs.proofs.Located.{nodes_at}
 use Rattle.plain_runs.proofs.Pointed.{next_offset, node_within}
 use Rattle.plain_runs.proofs.Keeping.{unit_kept}
 use Rattle.plain_runs.proofs.Working.{ChangedInView, code_same, heap_stays, view_on, view_goes_on}
@@ -48,6 +47,15 @@ there_at h b n node p e =
       record { aligned = omega (arith, p.address, u.region.aligned); from = omega (arith, p.address, u.region.from); to = omega (arith, p.address, u.region.to, next, within) },
     )
 
+-- a node and its poll have few words
+pub node_few : (h : Host) (b n : ℕ) (node : Node) → AllRun h → slice_get (body_in h.bodies b).nodes n ≡ Some node → length (poll ++ code_at h b n node) ≤ 128
+node_few h b n node run is =
+    let x = body_in h.bodies b in
+    let locals = frame_locals x in
+    let owns = owns_context x in
+    let e = node_long 64 h.references owns locals (words_before h.references owns locals 0 0 x.nodes n) node (depth_from 0 x.nodes n) (omega arith) ((run b).translates.short n node is) in
+    omega (arith, e)
+
 -- a node is ready where a step is left of the goal
 pub ready_at : (h : Host) (b n : ℕ) (node : Node) → RunsAt h b n node → h.machine.regs 2 < word_at h.machine.memory 0x30000000
     → IsReady h.machine h.machine.pc (frame_words (body_in h.bodies b)) (code_at h b n node)
@@ -68,21 +76,21 @@ next_poll h b n node next to p e more unit at =
       address = omega (arith, at, p.address, o, o2);
     }
 
--- A word is pended.
-pub pended_follows : (h : Host) (b n : ℕ) (node next : Node) (word : ℕ) → (r : RunsAt h b n node) → IsHosted h → AllRun h → h.current < 4 → h.machine.regs 2 < word_at h.machine.memory 0x30000000
-    → slice_get (body_in h.bodies b).nodes (n + 1) ≡ Some next → depth (body_in h.bodies b).nodes (n + 1) ≡ depth (body_in h.bodies b).nodes n + 1
-    → Does h.machine h.machine.pc (code_at h b n node) (pended h.machine (frame_locals (body_in h.bodies b)) (depth (body_in h.bodies b).nodes n) word)
-    → (let f = viewed h.machine b n (frame_locals (body_in h.bodies b)) (depth (body_in h.bodies b).nodes n) in Follows h b (n + 1) next (Going (moved_on (word ∷ f.pending) f ∷ callers_of h r.view.older)))
-pended_follows h b n node next word r hosted run low left more deeper d =
+-- A word is pended in the place of those over the first j.
+pub replaced_follows : (h : Host) (b n : ℕ) (node next : Node) (j word : ℕ) → (r : RunsAt h b n node) → IsHosted h → AllRun h → h.current < 4 → h.machine.regs 2 < word_at h.machine.memory 0x30000000
+    → slice_get (body_in h.bodies b).nodes (n + 1) ≡ Some next → depth (body_in h.bodies b).nodes (n + 1) ≡ j + 1 → j ≤ depth (body_in h.bodies b).nodes n
+    → Does h.machine h.machine.pc (code_at h b n node) (pended h.machine (frame_locals (body_in h.bodies b)) j word)
+    → (let f = viewed h.machine b n (frame_locals (body_in h.bodies b)) (depth (body_in h.bodies b).nodes n) in
+    Follows h b (n + 1) next (Going (moved_on (word ∷ (viewed h.machine b n (frame_locals (body_in h.bodies b)) j).pending) f ∷ callers_of h r.view.older)))
+replaced_follows h b n node next j word r hosted run low left more deeper within d =
     let m = h.machine in
     let x = body_in h.bodies b in
     let locals = frame_locals x in
-    let k = depth x.nodes n in
     let to = d.to in
     let mv = d.moved in
     let room = (run b).room n in
-    let shows = pended_shows m to (m.pc + 4 * length (poll ++ code_at h b n node)) ((m.regs 2 + 1) % 2 ^ 32) (frame_words x) locals k word hosted.within r.view.frame.place (omega (arith, room)) mv in
-    let at = m.regs 14 + pending_offset locals k in
+    let shows = pended_shows m to (m.pc + 4 * length (poll ++ code_at h b n node)) ((m.regs 2 + 1) % 2 ^ 32) (frame_words x) locals j word hosted.within r.view.frame.place (omega (arith, room, within)) mv in
+    let at = m.regs 14 + pending_offset locals j in
     let c : ChangedInView h b to = record {
       changed = shows.1;
       high = r.view.frame.place.1;
@@ -95,7 +103,7 @@ pended_follows h b n node next word r hosted run low left more deeper d =
     let counted : to.regs 2 ≡ m.regs 2 + 1 = mv.counted ∙ omega (arith, left, hosted.goal) in
     let v = view_on h b (n + 1) next to _ r.view hosted run low c mv.kept mv.older stands poll_next more
     (ap (λ z. viewed to b (n + 1) locals z) deeper ∙ shows.0 b n (n + 1)) in
-    record { instructions = d.instructions; to = to; goes = d.goes; on = view_goes_on h b (n + 1) next to _ r.view.older v c.heap counted (mv.kept 3 refl) (mv.kept 6 refl); runs = v.runs }
+    record { instructions = d.instructions; few = omega (arith, d.few, node_few h b n node run r.node_is); to = to; goes = d.goes; on = view_goes_on h b (n + 1) next to _ r.view.older v c.heap counted (mv.kept 3 refl) (mv.kept 6 refl); runs = v.runs }
 
 -- A value is dropped.
 pub dropped_follows : (h : Host) (b n : ℕ) (node next : Node) → (r : RunsAt h b n node) → IsHosted h → AllRun h → h.current < 4 → h.machine.regs 2 < word_at h.machine.memory 0x30000000
@@ -123,10 +131,11 @@ dropped_follows h b n node next r hosted run low left more less d =
     λ z e. (let P : ℕ → Type 0 = λ y. record (viewed m b n locals k) { next = n + 1 } ≡ moved_on (drop 1 (viewed m b n locals y).pending) (viewed m b n locals y) in subst P (sym e) refl) in
     let v = view_on h b (n + 1) next to _ r.view hosted run low c mv.kept mv.older stands poll_next more
     (left_shows m to (m.pc + 4 * length (poll ++ code_at h b n node)) ((m.regs 2 + 1) % 2 ^ 32) locals k mv b n (n + 1) ∙ same (depth x.nodes n) less) in
-    record { instructions = d.instructions; to = to; goes = d.goes; on = view_goes_on h b (n + 1) next to _ r.view.older v c.heap counted (mv.kept 3 refl) (mv.kept 6 refl); runs = v.runs }
+    record { instructions = d.instructions; few = omega (arith, d.few, node_few h b n node run r.node_is); to = to; goes = d.goes; on = view_goes_on h b (n + 1) next to _ r.view.older v c.heap counted (mv.kept 3 refl) (mv.kept 6 refl); runs = v.runs }
 
 pub pended_follow : PendedFollows
-pended_follow h b n node next word r c more deeper d = pended_follows h b n node next word r c.hosted c.runs c.current c.left more deeper d
+pended_follow h b n node next word r c more deeper d =
+    replaced_follows h b n node next (depth (body_in h.bodies b).nodes n) word r c.hosted c.runs c.current c.left more deeper (omega arith) d
 
 pub dropped_follow : DroppedFollows
 dropped_follow h b n node next r c more less d = dropped_follows h b n node next r c.hosted c.runs c.current c.left more less d

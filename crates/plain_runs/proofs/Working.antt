@@ -25,7 +25,7 @@ use Rattle.plain_words.proofs.Shown.{pended_shows, moved_window}
 use Rattle.plain_runs.specs.Course.{with_machine, AllRun}
 use Rattle.plain_runs.specs.Host.{Host, Status, Waiting, seen, waiting, threads_from, descriptor_at, heap_words, raw_of}
 use Rattle.plain_runs.specs.Units.{HasUnit, IsPoll, IsInPoll, IsBehindCall, node_offset}
-use Rattle.plain_runs.specs.Sound.{IsWindow, IsRoomy, IsCaller, IsHeld, Calls, Polls, IsRunnable, InFrame, RunsAt, IsHosted, GoesOn, callers_of, entry_frame, ending_stub}
+use Rattle.plain_runs.specs.Sound.{IsWindow, IsRoomy, IsCaller, IsHeld, Calls, Polls, InFrame, RunsAt, IsHosted, GoesOn, callers_of, entry_frame, ending_stub}
 use Rattle.plain_runs.proofs.Keeping.{SameCode, unit_kept, stub_kept, caller_kept, held_kept, threads_set, OthersWait, no_heap}
 use Rattle.plain_runs.proofs.Pointed.{poll_descriptor, call_descriptor, in_poll_descriptor}
 
@@ -131,7 +131,7 @@ held_have_room h run pc sp fp (Polls b n p r room) =
     (plain_fits (frame_words (body_in h.bodies b)) b n locals k (omega (arith, g))) (omega (arith, g)) room
 
 pub run_kept : (h : Host) (to : MachineState) → AllRun h → AllRun (with_machine h to)
-run_kept h to run b = record { takes = (run b).takes; room = (run b).room; ends = (run b).ends }
+run_kept h to run b = run b
 
 -- Stacks.
 
@@ -209,6 +209,7 @@ seen_as d m older e = ap (λ n. activations d m.memory n (m.regs 14) (kept m.reg
 -- the machine goes on in its own frame to a node's poll
 pub record ViewOn (h : Host) (to : MachineState) (b n : ℕ) (next : Node) (now : Frame) (older : ℕ) : Type 0 where
   pub hosted : IsHosted (with_machine h to)
+  pub goal : word_at to.memory 0x30000000 ≡ word_at h.machine.memory 0x30000000
   pub runs : RunsAt (with_machine h to) b n next
   pub threads : threads_from (with_machine h to) 0 h.statuses ≡ slice_set (threads_from h 0 h.statuses) h.current (Going (now ∷ callers_of h older))
 
@@ -261,6 +262,7 @@ view_on h b n next to now r hosted run low c keeps held_same stands poll next_is
         others = others.laid;
         goal = omega (arith, c.changed 0x30000000 (inl (omega (arith, c.high))), hosted.goal);
       };
+      goal = c.changed 0x30000000 (inl (omega (arith, c.high)));
       runs = record {
         view = record {
           sp = r.sp;
@@ -271,6 +273,7 @@ view_on h b n next to now r hosted run low c keeps held_same stands poll next_is
           older = r.older;
           count = e4;
           few = r.few;
+          held = (let P : List Window → Type 0 = λ x. length x ≤ suc r.older in subst P (sym held_same) r.held);
           callers = laid_now;
         };
         stands = stands;
@@ -285,6 +288,7 @@ pub view_goes_on : (h : Host) (b n : ℕ) (next : Node) (to : MachineState) (now
     → GoesOn h (with_machine h to) (Going (now ∷ callers_of h older))
 view_goes_on h b n next to now older v heap counted cost top = record {
   hosted = v.hosted;
+  goal = v.goal;
   raw = λ i. record {
     maps = h.maps;
     mem = heap i;

@@ -1,5 +1,5 @@
 -- How plain code goes on under its host, node by node.
-use Rattle.std.specs.Prelude.{◌≡◌, ℕ, suc, ◌+◌, ◌<◌, List, ◌∷◌, Some, slice_get, drop}
+use Rattle.std.specs.Prelude.{◌≡◌, ℕ, suc, ◌+◌, ◌<◌, ◌≤◌, List, ◌∷◌, Some, slice_get, drop}
 use Rattle.self_terms.specs.declared.nodes.Node.{Node}
 use Rattle.self_terms.specs.Depths.{depth, depth_from}
 use Rattle.sparc_insn.specs.declared.insn.Insn.{Insn}
@@ -13,14 +13,14 @@ use Rattle.plain_words.specs.Showing.{viewed}
 use Rattle.plain_words.specs.Units.{node_code, owns_context, frame_locals}
 use Rattle.plain_runs.specs.Host.{Host}
 use Rattle.plain_runs.specs.Units.{words_before}
-use Rattle.plain_runs.specs.Sound.{IsRunnable, InFrame, RunsAt, IsHosted, GoesOn, callers_of}
+use Rattle.plain_runs.specs.Sound.{Runs, InFrame, RunsAt, IsHosted, GoesOn, callers_of}
 
 abbrev pub with_machine : Host → MachineState → Host
 with_machine h m = record h { machine = m }
 
 -- every body is one that plain code runs
 abbrev pub AllRun : Host → Type 0
-AllRun h = (b : ℕ) → IsRunnable h b
+AllRun h = (b : ℕ) → Runs h b
 
 -- the words of a node of a body behind its poll
 abbrev pub code_at : Host → ℕ → ℕ → Node → List Insn
@@ -31,6 +31,7 @@ code_at h b n node =
 -- what a node that is done leads to: in so many instructions a host that shows the activity so, at a node's poll
 pub record Follows (h : Host) (b n : ℕ) (next : Node) (now : Thread) : Type 0 where
   pub instructions : ℕ
+  pub few : instructions ≤ 128
   pub to : MachineState
   pub goes : Goes instructions h.machine to
   pub on : GoesOn h (with_machine h to) now
@@ -39,6 +40,7 @@ pub record Follows (h : Host) (b n : ℕ) (next : Node) (now : Thread) : Type 0 
 -- The answer goes to the caller, which moves on.
 pub record AnswersCaller (h : Host) (older answer : ℕ) : Type 0 where
   pub instructions : ℕ
+  pub few : instructions ≤ 128
   pub to : MachineState
   pub goes : Goes instructions h.machine to
   pub on : GoesOn h (with_machine h to) (answered_to (callers_of h older) answer)
@@ -47,7 +49,7 @@ pub record AnswersCaller (h : Host) (older answer : ℕ) : Type 0 where
   pub next : Node
   pub runs : RunsAt (with_machine h to) body number next
 
--- The host is sound, one of four activities is the current one, and a step is left of the goal.
+-- The host is sound, the current activity's number is one of four, and a step is left of the goal.
 pub record CanGo (h : Host) : Type 0 where
   pub hosted : IsHosted h
   pub runs : AllRun h

@@ -1,8 +1,6 @@
 -- A machine with what its host keeps beside it, and what both show of a running program.
 use Rattle.std.specs.Prelude.{ℕ, zero, suc, ◌+◌, ◌-◌, ◌*◌, ◌/◌, ◌==◌, if◌then◌else◌, get_or, List, [], ◌∷◌}
 use Rattle.self_terms.specs.declared.bodies.Body.{Body}
-use Rattle.self_terms.specs.declared.nodes.Place.{Place}
-use Rattle.self_terms.specs.declared.errors.ErrorName.{ErrorName}
 use Rattle.object_maps.specs.Slots.{Slots}
 use Rattle.object_maps.specs.declared.layout.Heap.{Heap}
 use Rattle.sparc_store.specs.Words.{Words}
@@ -14,14 +12,9 @@ use Rattle.frame_walk.specs.Walk.{activations}
 use Rattle.plain_words.specs.declared.references.References.{References}
 use Rattle.plain_words.specs.declared.units.Point.{Point}
 use Rattle.plain_words.specs.Units.{point_descriptor, frame_locals}
+pub use Rattle.plain_runs.specs.declared.status.Status.{Status}
+pub use Rattle.plain_runs.specs.declared.status.Status.TheVariants.{Waiting, Answered, Failed}
 use Rattle.frame_walk.specs.Raw.{Thread, Going, Answered as Answer, Failed as Failure, Raw}
-
--- How an activity stands: its frames wait in its stack, the youngest where this begins and goes on, so many of them; or it has answered with
--- a word; or an error ended it. Of the current activity, while it runs, machine and registers tell.
-pub data Status : Type 0 where
-  Waiting : ℕ → ℕ → ℕ → Status
-  Answered : ℕ → Status
-  Failed : ErrorName → Place → Status
 
 -- `next` is the next object's number; `entries` has for each body the address of its unit, 0 where it has none yet; `points` has what each word
 -- of the units says; `steps` and `cost` are the sums up to the last service, and %g2 and %g3 count on. %g4 is the number of activations of the

@@ -2,4 +2,5 @@
 pub mod Host
 pub mod Units
 pub mod Sound
+pub mod Services
 pub mod Course

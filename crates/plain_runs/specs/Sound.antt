@@ -1,6 +1,11 @@
 -- What holds of a machine and its host wherever plain code runs.
 use Rattle.std.specs.Prelude.{◌≡◌, ◌≢◌, ◌⊎◌, ℕ, zero, suc, ◌+◌, ◌-◌, ◌*◌, ◌/◌, ◌%◌, ◌<◌, ◌≤◌, List, [], ◌∷◌, length, Some, slice_get, All, true}
 use Rattle.self_terms.specs.declared.nodes.Node.{Node}
+use Rattle.self_terms.specs.declared.nodes.Node.TheVariants as nodes
+use Rattle.self_terms.specs.declared.bodies.Body.{Body}
+use Rattle.self_terms.specs.declared.bodies.Local.{Local}
+use Rattle.self_terms.specs.declared.values.Datum.{Datum}
+use Rattle.self_terms.specs.declared.values.Datum.TheVariants as datum
 use Rattle.sparc_insn.specs.declared.insn.Insn.TheVariants.{Trap}
 use Rattle.sparc_store.specs.Words.{Words, word_at, HasFrame, IsWithin}
 use Rattle.sparc_store.specs.Chain.{IsFrame}
@@ -12,6 +17,7 @@ use Rattle.frame_walk.specs.Raw.{Thread, Going, becomes}
 use Rattle.frame_walk.specs.Walk.{activations, AreLaid}
 use Rattle.self_terms.specs.Depths.{taken, depth, is_inner}
 use Rattle.plain_words.specs.Going.{At, StandsAt}
+use Rattle.plain_words.specs.Translating.{CanTranslate}
 use Rattle.plain_words.specs.Units.{frame_words, frame_locals}
 use Rattle.plain_runs.specs.Host.{Host, Status, Waiting, seen, descriptor_at, raw_of}
 use Rattle.plain_runs.specs.Units.{HasUnit, IsPoll, IsInPoll, IsBehindCall}
@@ -40,11 +46,28 @@ pub record IsCaller (h : Host) (pc sp fp : ℕ) : Type 0 where
   pub call : IsBehindCall h pc body number node
   pub room : IsRoomy h body sp fp
 
--- A body that plain code runs: each node takes values that are there, and all but those that end it have one behind them.
-pub record IsRunnable (h : Host) (b : ℕ) : Type 0 where
-  pub takes : (n : ℕ) (node : Node) → slice_get (body_in h.bodies b).nodes n ≡ Some node → taken node ≤ depth (body_in h.bodies b).nodes n
-  pub room : (n : ℕ) → 28 + frame_locals (body_in h.bodies b) + depth (body_in h.bodies b).nodes n ≤ frame_words (body_in h.bodies b)
-  pub ends : (n : ℕ) (node : Node) → slice_get (body_in h.bodies b).nodes n ≡ Some node → is_inner node ≡ true → (next : Node) × (slice_get (body_in h.bodies b).nodes (n + 1) ≡ Some next)
+-- the objects that a node and an initial content name are among the first so many
+abbrev pub NamesObject : ℕ → Node → Type 0
+NamesObject objects (nodes.Str o) = o < objects
+NamesObject objects _ = Unit {0}
+
+abbrev pub HoldsObject : ℕ → Datum → Type 0
+HoldsObject objects (datum.Object o) = o < objects
+HoldsObject objects _ = Unit {0}
+
+-- A body that plain code runs, over so many objects: each node takes values that are there, and all but those that end it have one behind
+-- them; its words fit their fields; and the objects that it names are there.
+pub record IsRunnable (objects : ℕ) (x : Body) : Type 0 where
+  pub takes : (n : ℕ) (node : Node) → slice_get x.nodes n ≡ Some node → taken node ≤ depth x.nodes n
+  pub room : (n : ℕ) → 28 + frame_locals x + depth x.nodes n ≤ frame_words x
+  pub ends : (n : ℕ) (node : Node) → slice_get x.nodes n ≡ Some node → is_inner node ≡ true → (next : Node) × (slice_get x.nodes (n + 1) ≡ Some next)
+  pub translates : CanTranslate x
+  pub names : (n : ℕ) (node : Node) → slice_get x.nodes n ≡ Some node → NamesObject objects node
+  pub holds : (k : ℕ) (y : Local) → slice_get x.locals k ≡ Some y → HoldsObject objects y.initial
+
+-- the body of a number
+abbrev pub Runs : Host → ℕ → Type 0
+Runs h b = IsRunnable (length h.references.objects) (body_in h.bodies b)
 
 -- The current activity runs, and the frame in view is that of its youngest activation, of a body; the others wait.
 pub record InFrame (h : Host) (b : ℕ) : Type 0 where
@@ -56,6 +79,7 @@ pub record InFrame (h : Host) (b : ℕ) : Type 0 where
   pub older : ℕ
   pub count : h.machine.regs 4 ≡ suc older
   pub few : older < 4096
+  pub held : length h.machine.older ≤ suc older
   pub callers : AreLaid (IsCaller h) (entry_frame h.current) ending_stub h.machine.memory older (h.machine.regs 30) (frame_before h.machine.memory (h.machine.regs 30) h.machine.older) (h.machine.regs 31 + 8) (but_first h.machine.older)
 
 -- it is at the poll of a node
@@ -65,10 +89,10 @@ pub record RunsAt (h : Host) (b n : ℕ) (node : Node) : Type 0 where
   pub poll : IsPoll h h.machine.pc b n
   pub node_is : slice_get (body_in h.bodies b).nodes n ≡ Some node
 
--- a frame of an activity that waits: the youngest is in a poll, and the others wait for an answer
+-- a frame of an activity that waits: it waits for an answer, or is in a poll
 pub data IsHeld (h : Host) (pc sp fp : ℕ) : Type 0 where
   Calls : IsCaller h pc sp fp → IsHeld h pc sp fp
-  Polls : (b n : ℕ) → IsInPoll h pc b n → IsRunnable h b → IsRoomy h b sp fp → IsHeld h pc sp fp
+  Polls : (b n : ℕ) → IsInPoll h pc b n → Runs h b → IsRoomy h b sp fp → IsHeld h pc sp fp
 
 -- What holds wherever plain code runs, beside the activity that runs: memory is whole; the units stand that are said to stand; so does
 -- the stub to which the oldest activations return; and the frames of each other activity lie in its stack.
@@ -91,4 +115,5 @@ callers_of h older =
 -- The host with its machine gone on: what it shows is what it showed, but for a step and the current activity, which is this now.
 pub record GoesOn (h to : Host) (now : Thread) : Type 0 where
   pub hosted : IsHosted to
+  pub goal : word_at to.machine.memory 0x30000000 ≡ word_at h.machine.memory 0x30000000
   pub raw : raw_of to ≡ becomes (raw_of h) now

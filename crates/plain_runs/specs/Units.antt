@@ -40,7 +40,7 @@ pub record IsPoll (h : Host) (pc b n : ℕ) : Type 0 where
   pub inside : n < length (body_in h.bodies b).nodes
   pub address : pc ≡ at + 4 * node_offset h.references (body_in h.bodies b) n
 
--- it is that of a word of the poll: where a run begins and stops the machine stands at the poll's trap
+-- it is that of a word of the poll
 pub record IsInPoll (h : Host) (pc b n : ℕ) : Type 0 where
   pub at : ℕ
   pub word : ℕ
@@ -49,7 +49,7 @@ pub record IsInPoll (h : Host) (pc b n : ℕ) : Type 0 where
   pub within : word < 6
   pub address : pc ≡ at + 4 * (node_offset h.references (body_in h.bodies b) n + word)
 
--- the address is that behind the call of a node, which is a send: one word before the next node's poll
+-- the address is that behind the call of a node, which is a send or a primitive: one word before the next node's poll
 pub record IsBehindCall (h : Host) (pc b n : ℕ) (node : Node) : Type 0 where
   pub at : ℕ
   pub unit : HasUnit h b at

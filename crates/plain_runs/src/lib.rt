@@ -7,5 +7,7 @@
 #![tactic(auto)]
 
 mod laws;
+mod status;
 
 pub use laws::nodes_go_on;
+pub use status::Status;

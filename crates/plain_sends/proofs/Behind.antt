@@ -1,10 +1,10 @@
 -- Behind a call the answer is pended.
 use Rattle.std.proofs.Common.{◌≡◌, ℕ, suc, ◌+◌, ◌-◌, ◌*◌, ◌<◌, ◌≤◌, refl, ◌∙◌, ap, sym, subst, arith, length-append}
-use Rattle.std.specs.Prelude.{Bool, true, List, [], ◌∷◌, ◌++◌, length, Some, slice_get}
+use Rattle.std.specs.Prelude.{Bool, true, not, List, [], ◌∷◌, ◌++◌, length, Some, slice_get}
 use Rattle.std.proofs.lemmas.Option.{slice_get_within}
 use Rattle.self_terms.specs.declared.nodes.Node.{Node}
 use Rattle.self_terms.specs.declared.nodes.Node.TheVariants as nodes
-use Rattle.self_terms.specs.Depths.{taken, grown, depth, depth_from, is_inner}
+use Rattle.self_terms.specs.Depths.{one_if, taken, grown, depth, depth_from, is_inner}
 use Rattle.sparc_insn.specs.declared.insn.Insn.{Insn}
 use Rattle.sparc_store.specs.Words.{Words, with_word, IsWithin}
 use Rattle.sparc_store.proofs.Placed.{put_stays_within}
@@ -12,7 +12,7 @@ use Rattle.sparc_machine.specs.State.{MachineState}
 use Rattle.frame_walk.specs.Places.{Frame, pending_offset}
 use Rattle.source_model.specs.Soundness.{body_in}
 use Rattle.plain_words.specs.Going.{Goes, At, StandsAt, IsCodeFrom}
-use Rattle.plain_words.specs.Code.{poll, answered_code, send_code, implied_code}
+use Rattle.plain_words.specs.Code.{poll, answered_code, send_code, implied_code, primitive_code}
 use Rattle.plain_words.specs.Moves.{Moved, pended}
 use Rattle.plain_words.specs.Showing.{viewed}
 use Rattle.plain_words.specs.declared.references.References.{References}
@@ -32,10 +32,11 @@ use Rattle.plain_runs.proofs.Ready.{there_at}
 use Rattle.plain_runs.proofs.Popping.{depth_after}
 
 abbrev call_front : References → Bool → ℕ → ℕ → Node → ℕ → List Insn
-call_front r owns locals at (nodes.Send sel) k = send_code locals (k - (sel.args + 1)) sel.args
-call_front r owns locals at (nodes.SelfSend sel) k = implied_code locals (k - sel.args) sel.args
-call_front r owns locals at (nodes.Resend sel) k = implied_code locals (k - sel.args) sel.args
-call_front r owns locals at (nodes.Directed parent sel) k = implied_code locals (k - sel.args) sel.args
+call_front r owns locals at (nodes.Send sel) k = send_code 1 locals (k - (sel.args + 1)) sel.args
+call_front r owns locals at (nodes.SelfSend sel) k = implied_code 1 locals (k - sel.args) sel.args
+call_front r owns locals at (nodes.Resend sel) k = implied_code 1 locals (k - sel.args) sel.args
+call_front r owns locals at (nodes.Directed parent sel) k = implied_code 1 locals (k - sel.args) sel.args
+call_front r owns locals at (nodes.Prim name args implied handler) k = primitive_code name.0 args implied locals (k - (args + one_if (not implied) + one_if handler)) (args + one_if handler)
 call_front r owns locals at _ k = []
 
 call_code : (r : References) (owns : Bool) (locals at : ℕ) (node : Node) (k : ℕ) → is_call node ≡ true → node_code r owns locals at node k ≡ call_front r owns locals at node k ++ answered_code locals (k - taken node)
@@ -43,6 +44,7 @@ call_code r owns locals at (nodes.Send sel) k e = refl
 call_code r owns locals at (nodes.SelfSend sel) k e = refl
 call_code r owns locals at (nodes.Resend sel) k e = refl
 call_code r owns locals at (nodes.Directed parent sel) k e = refl
+call_code r owns locals at (nodes.Prim name args implied handler) k e = refl
 call_code r owns locals at _ k e = absurd (cc)
 
 call_leaves : (node : Node) (k : ℕ) → is_call node ≡ true → taken node ≤ k → grown node k ≡ k - taken node + 1
@@ -50,6 +52,7 @@ call_leaves (nodes.Send sel) k e h = refl
 call_leaves (nodes.SelfSend sel) k e h = refl
 call_leaves (nodes.Resend sel) k e h = refl
 call_leaves (nodes.Directed parent sel) k e h = refl
+call_leaves (nodes.Prim name args implied handler) k e h = refl
 call_leaves _ k e h = absurd (cc)
 
 call_inner : (node : Node) → is_call node ≡ true → is_inner node ≡ true
@@ -57,6 +60,7 @@ call_inner (nodes.Send sel) e = refl
 call_inner (nodes.SelfSend sel) e = refl
 call_inner (nodes.Resend sel) e = refl
 call_inner (nodes.Directed parent sel) e = refl
+call_inner (nodes.Prim name args implied handler) e = refl
 call_inner _ e = absurd (cc)
 
 pub depth_is : (nodes : List Node) (n : ℕ) → depth nodes n ≡ depth_from 0 nodes n

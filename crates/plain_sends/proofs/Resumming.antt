@@ -4,9 +4,11 @@ use Rattle.std.specs.Prelude.{List, [], ◌∷◌}
 use Rattle.self_terms.specs.declared.nodes.Node.{Node}
 use Rattle.sparc_store.specs.Windows.{saved_at, frame_before, but_first}
 use Rattle.frame_walk.proofs.Resting.{laid_as}
-use Rattle.plain_runs.specs.Host.{Host, Status, Waiting, Answered, Failed, thread_of, threads_from, descriptor_at}
+use Rattle.plain_runs.specs.Host.{Host, thread_of, threads_from, descriptor_at}
+use Rattle.plain_runs.specs.declared.status.Status.{Status}
+use Rattle.plain_runs.specs.declared.status.Status.TheVariants.{Waiting, Answered, Failed}
 use Rattle.plain_runs.specs.Units.{HasUnit}
-use Rattle.plain_runs.specs.Sound.{IsCaller, IsHeld, Calls, Polls, IsRunnable, RunsAt, IsHosted, entry_frame, ending_stub}
+use Rattle.plain_runs.specs.Sound.{IsCaller, IsHeld, Calls, Polls, RunsAt, IsHosted, entry_frame, ending_stub}
 
 abbrev pub resummed : ℕ → ℕ → Host → Host
 resummed steps cost h = record h { steps = steps; cost = cost }
@@ -23,14 +25,11 @@ caller_as steps cost h pc sp fp c = record {
   room = record { ends = c.room.ends; place = c.room.place };
 }
 
-run_as : (steps cost : ℕ) (h : Host) (b : ℕ) → IsRunnable h b → IsRunnable (resummed steps cost h) b
-run_as steps cost h b r = record { takes = r.takes; room = r.room; ends = r.ends }
-
 held_as : (steps cost : ℕ) (h : Host) (pc sp fp : ℕ) → IsHeld h pc sp fp → IsHeld (resummed steps cost h) pc sp fp
 held_as steps cost h pc sp fp (Calls c) = Calls (caller_as steps cost h pc sp fp c)
 held_as steps cost h pc sp fp (Polls b n p r room) =
     Polls b n (record { at = p.at; word = p.word; unit = unit_as steps cost h b p.at p.unit; inside = p.inside; within = p.within; address = p.address })
-    (run_as steps cost h b r) (record { ends = room.ends; place = room.place })
+    r (record { ends = room.ends; place = room.place })
 
 pub runs_as : (steps cost : ℕ) (h : Host) (b n : ℕ) (node : Node) → RunsAt h b n node → RunsAt (resummed steps cost h) b n node
 runs_as steps cost h b n node r =
@@ -45,6 +44,7 @@ runs_as steps cost h b n node r =
         older = v.older;
         count = v.count;
         few = v.few;
+        held = v.held;
         callers = laid_as (IsCaller h) (IsCaller (resummed steps cost h)) (entry_frame h.current) ending_stub h.machine.memory v.older (h.machine.regs 30) (frame_before h.machine.memory (h.machine.regs 30) h.machine.older) (h.machine.regs 31 + 8) (but_first h.machine.older) (caller_as steps cost h) v.callers;
       };
       stands = r.stands;

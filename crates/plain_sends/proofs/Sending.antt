@@ -1,6 +1,7 @@
 -- Sends that data answers do the source's step.
-use Rattle.std.proofs.Common.{◌≡◌, ℕ, zero, suc, ◌+◌, ◌-◌, ◌*◌, refl, ◌∙◌, ap, sym, subst, arith, length-append}
-use Rattle.std.specs.Prelude.{Bool, true, List, [], ◌∷◌, ◌++◌, map, length, drop}
+use Rattle.std.proofs.Common.{◌≡◌, ℕ, zero, suc, ◌+◌, ◌-◌, ◌*◌, ◌<◌, ◌≤◌, refl, ◌∙◌, ap, sym, subst, arith, length-append}
+use Rattle.std.specs.Prelude.{Bool, true, List, [], ◌∷◌, ◌++◌, map, length, take, drop, reverse, get_or, Some}
+use Rattle.std.proofs.lemmas.List.{reverse-append}
 use Rattle.self_terms.specs.declared.nodes.Node.{Node}
 use Rattle.self_terms.specs.declared.nodes.Node.TheVariants as nodes
 use Rattle.self_terms.specs.declared.nodes.Selector.{Selector}
@@ -10,19 +11,19 @@ use Rattle.sparc_insn.specs.declared.insn.Insn.{Insn}
 use Rattle.sparc_store.specs.Words.{Words, word_at}
 use Rattle.sparc_store.specs.Windows.{kept}
 use Rattle.sparc_machine.specs.State.{MachineState}
-use Rattle.source_model.specs.Messages.{Met, meets, meets_above, meets_through}
+use Rattle.source_model.specs.Messages.{Met}
 use Rattle.source_model.specs.Sends.{Message}
 use Rattle.source_model.specs.State.{Activation, State}
 use Rattle.source_model.specs.Soundness.{body_in}
-use Rattle.source_model.specs.Step.{step, value_at, stated, implied}
+use Rattle.source_model.specs.Step.{step, stated, implied}
 use Rattle.frame_walk.specs.Places.{Frame, word_in_place, pending_places, pending_offset}
-use Rattle.frame_walk.specs.Raw.{Going, Raw, becomes, moved_on}
+use Rattle.frame_walk.specs.Raw.{Thread, Going, Raw, becomes, moved_on}
 use Rattle.raw_steps.specs.Stands.{Sense, Stands, IsAt, Follows as RawFollows}
 use Rattle.raw_steps.specs.Messages.{RawMessage, stated_words, implied_words}
 use Rattle.raw_steps.specs.Sends.{IsSend, here_of}
 use Rattle.raw_steps.proofs.Sending.{send_is, self_send_is, resend_is, directed_is, constant_answers, field_answers, parent_answers}
 use Rattle.plain_words.specs.Code.{poll, move, take as load_pending, send_code, implied_code, answered_code, arguments_code}
-use Rattle.plain_words.specs.Moves.{IsReady, Asks as AsksWords}
+use Rattle.plain_words.specs.Moves.{IsReady, AreArguments, registers_from}
 use Rattle.plain_words.specs.Showing.{viewed}
 use Rattle.plain_words.specs.Units.{frame_locals, frame_words, is_call, node_code}
 use Rattle.plain_words.specs.declared.references.References.{References}
@@ -35,12 +36,14 @@ use Rattle.plain_runs.specs.Course.{with_machine, CanGo, code_at}
 use Rattle.plain_runs.proofs.Pointed.{next_offset}
 use Rattle.plain_runs.proofs.Ready.{there_at, ready_at}
 use Rattle.plain_steps.specs.Steps.{StandsFor}
+use Rattle.plain_runs.proofs.Located.{some_is}
+use Rattle.plain_steps.proofs.Words.{stands_after, step_counted}
 use Rattle.plain_steps.proofs.Here.{at_node_of}
 use Rattle.plain_steps.proofs.Reading.{values_long}
-use Rattle.plain_sends.specs.Services.{data_answers}
-use Rattle.plain_sends.specs.Sends.{IsData, OfConstant, OfField, OfParent, Asks, WordsAsk}
+use Rattle.plain_runs.specs.Services.{data_answers}
+use Rattle.plain_sends.specs.Sends.{met_of, IsSent, NodesSend, DataAnswers, IsData, OfConstant, OfField, OfParent}
 use Rattle.plain_sends.proofs.Behind.{depth_is}
-use Rattle.plain_sends.proofs.Serving.{Served, served}
+use Rattle.plain_sends.proofs.Serving.{served}
 
 pending_long : (memory : Words) (window : ℕ → ℕ) (sp locals k : ℕ) → length (map (word_in_place memory window sp) (pending_places locals k)) ≡ k
 pending_long memory window sp locals zero = refl
@@ -67,45 +70,43 @@ behind_at h b n node args r call long =
       address = omega (arith, r.poll.address, next, later, long);
     }
 
-asks_for : (z : Sense) (h : Host) (s : State) (b n : ℕ) (node : Node) (args receiver k : ℕ) (met : State → Activation → Met) → (f : StandsFor z h s) → (r : RunsAt h b n node) → CanGo h → is_call node ≡ true
-    → length (code_at h b n node) ≡ args + 3 → AsksWords h.machine 1 (h.machine.pc + 24 + 4 * (1 + args)) receiver (frame_locals (body_in h.bodies b)) k args
-    → ((word : ℕ) → IsData z (met s (at_node_of z h s b n node f r).young) word
-    → (let v = viewed h.machine b n (frame_locals (body_in h.bodies b)) (depth (body_in h.bodies b).nodes n) in
-    RawFollows z (becomes (raw_of h) (Going (moved_on (word ∷ drop (taken node) v.pending) v ∷ callers_of h r.view.older))) (step s) []))
-    → Asks z h s met
-asks_for z h s b n node args receiver k met f r can call long a follows =
-    let x = body_in h.bodies b in
-    let at = at_node_of z h s b n node f r in
-    let t = there_at h b n node r.poll r.node_is in
-    let takes = (can.runs b).takes n node r.node_is in
-    let region = t.1 in
-    record {
-      instructions = a.instructions;
-      asked = a.to;
-      goes = a.goes;
-      trap = a.trap;
-      sender = at.young;
-      older = at.older;
-      running = at.at.here;
-      answers = λ goal cost word few is.
-          let v : Served h (data_answers goal cost word (with_machine h a.to)) b n r.view.older word _ _ =
-          served h b n node word goal cost (h.machine.pc + 24 + 4 * (1 + args)) receiver k args r can few a (behind_at h b n node args r call long) (omega (arith, region.to, long)) (omega (arith, takes, depth_is x.nodes n)) in
-          let raw = follows word is in
-          let P : Raw → Type 0 = λ y. Stands raw.to y (step s).state in
-          record {
-            instructions = 1;
-            to = v.to;
-            goes = v.goes;
-            hosted = v.hosted;
-            body = b;
-            number = n + 1;
-            next = v.next;
-            runs = v.runs;
-            sense = raw.to;
-            stands = subst P (sym v.raw) raw.stands;
-            silent = raw.same;
-          };
-    }
+-- The words of arguments, oldest first.
+
+-- so many pending words from a number on
+abbrev rising : Words → ℕ → ℕ → ℕ → ℕ → List ℕ
+rising memory sp locals k zero = []
+rising memory sp locals k (suc n) = word_at memory (sp + pending_offset locals k) ∷ rising memory sp locals (k + 1) n
+
+from_registers : (m to : MachineState) (register locals k n : ℕ) → AreArguments m to register locals k n → registers_from to.regs register n ≡ rising m.memory (m.regs 14) locals k n
+from_registers m to register locals k zero a = refl
+from_registers m to register locals k (suc n) a = λ i. a.0 i ∷ from_registers m to (register + 1) locals (k + 1) n a.1 i
+
+-- the last of them
+rising_last : (memory : Words) (sp locals k n : ℕ) → rising memory sp locals k (suc n) ≡ rising memory sp locals k n ++ (word_at memory (sp + pending_offset locals (k + n)) ∷ [])
+rising_last memory sp locals k zero = ap (λ j. word_at memory (sp + pending_offset locals j) ∷ []) (omega arith)
+rising_last memory sp locals k (suc n) =
+    let later : k + 1 + n ≡ k + suc n = omega arith in
+    ap (λ ws. word_at memory (sp + pending_offset locals k) ∷ ws) (rising_last memory sp locals (k + 1) n ∙ ap (λ j. rising memory sp locals (k + 1) n ++ (word_at memory (sp + pending_offset locals j) ∷ [])) later)
+
+-- the youngest n of d pending words, in the order in which they were pended
+turned : (memory : Words) (window : ℕ → ℕ) (sp locals n d : ℕ) → n ≤ d → reverse (take n (map (word_in_place memory window sp) (pending_places locals d))) ≡ rising memory sp locals (d - n) n
+turned memory window sp locals zero d h = refl
+turned memory window sp locals (suc n) zero h = absurd (omega (arith, h))
+turned memory window sp locals (suc n) (suc d) h =
+    let w = word_at memory (sp + pending_offset locals d) in
+    let front : d - n ≡ suc d - suc n = omega arith in
+    let last : d ≡ d - n + n = omega (arith, h) in
+    reverse-append (w ∷ []) (take n (map (word_in_place memory window sp) (pending_places locals d)))
+    ∙ ap (λ ws. ws ++ (w ∷ [])) (turned memory window sp locals n d (omega (arith, h)))
+    ∙ ap (λ j. rising memory sp locals (d - n) n ++ (word_at memory (sp + pending_offset locals j) ∷ [])) last
+    ∙ sym (rising_last memory sp locals (d - n) n)
+    ∙ ap (λ j. rising memory sp locals j (suc n)) front
+
+-- the pending word under so many younger ones
+under : (memory : Words) (window : ℕ → ℕ) (sp locals n d : ℕ) → n < d → get_or (map (word_in_place memory window sp) (pending_places locals d)) n 0 ≡ word_at memory (sp + pending_offset locals (d - (n + 1)))
+under memory window sp locals n zero h = absurd (omega (arith, h))
+under memory window sp locals zero (suc d) h = ap (λ j. word_at memory (sp + pending_offset locals j)) (omega arith)
+under memory window sp locals (suc n) (suc d) h = under memory window sp locals n d (omega (arith, h)) ∙ ap (λ j. word_at memory (sp + pending_offset locals j)) (omega arith)
 
 -- the words up to the call
 front_ready : (m : MachineState) (p words : ℕ) (front rest : List Insn) → IsReady m p words (front ++ rest) → IsReady m p words front
@@ -121,25 +122,28 @@ loads_long : (to locals k n : ℕ) → length (arguments_code to locals k n) ≡
 loads_long to locals k zero = refl
 loads_long to locals k (suc n) = ap suc (loads_long (to + 1) locals (k + 1) n)
 
-send_long : (locals k j args : ℕ) → length (send_code locals k args ++ answered_code locals j) ≡ args + 3
+send_long : (locals k j args : ℕ) → length (send_code 1 locals k args ++ answered_code locals j) ≡ args + 3
 send_long locals k j args =
-    let front = send_code locals k args in
+    let front = send_code 1 locals k args in
     let e : length front ≡ suc (length (arguments_code 9 locals (k + 1) args)) + 1 = length-append (load_pending 8 locals k ∷ arguments_code 9 locals (k + 1) args) _ in
     omega (arith, length-append front (answered_code locals j), e, loads_long 9 locals (k + 1) args)
 
-implied_long : (locals k j args : ℕ) → length (implied_code locals k args ++ answered_code locals j) ≡ args + 3
+implied_long : (locals k j args : ℕ) → length (implied_code 1 locals k args ++ answered_code locals j) ≡ args + 3
 implied_long locals k j args =
-    let front = implied_code locals k args in
+    let front = implied_code 1 locals k args in
     let e : length front ≡ suc (length (arguments_code 9 locals k args)) + 1 = length-append (move 8 24 ∷ arguments_code 9 locals k args) _ in
     omega (arith, length-append front (answered_code locals j), e, loads_long 9 locals k args)
 
+ap_few : (a b : Selector) → Some a ≡ Some b → b.args ≤ 5 → a.args ≤ 5
+ap_few a b e few = (let P : Selector → Type 0 = λ y. y.args ≤ 5 in subst P (sym (some_is a b e)) few)
+
 -- a message to the activation's own receiver
-own_asks : (node : Node) (sel : Selector) (met : State → Activation → Met) → is_call node ≡ true → taken node ≡ sel.args
-    → ((r : References) (owns : Bool) (locals at k : ℕ) → node_code r owns locals at node k ≡ implied_code locals (k - sel.args) sel.args ++ answered_code locals (k - sel.args))
+own_sent : (node : Node) (sel : Selector) → is_call node ≡ true → taken node ≡ sel.args
+    → ((r : References) (owns : Bool) (locals at k : ℕ) → node_code r owns locals at node k ≡ implied_code 1 locals (k - sel.args) sel.args ++ answered_code locals (k - sel.args))
     → ((r : Raw) (s : State) (z : Sense) → Stands z r s → (a : Activation) (older : List Activation) (f : Frame) (fs : List Frame) → IsAt r s a older f fs node
-    → IsSend s z a older node (implied sel.args (here_of s a older)) (implied_words sel.args f) sel.name.0 (met s a))
-    → WordsAsk node sel met
-own_asks node sel met call takes code is z h s b n f r can few =
+    → IsSend s z a older node (implied sel.args (here_of s a older)) (implied_words sel.args f) sel.name.0 (met_of node s a))
+    → (z : Sense) (h : Host) (s : State) (b n : ℕ) → StandsFor z h s → (r : RunsAt h b n node) → CanGo h → sel.args ≤ 5 → IsSent z h s b n node sel r
+own_sent node sel call takes code is z h s b n f r can few =
     let m = h.machine in
     let x = body_in h.bodies b in
     let locals = frame_locals x in
@@ -148,28 +152,38 @@ own_asks node sel met call takes code is z h s b n f r can few =
     let at = at_node_of z h s b n node f r in
     let v = viewed m b n locals (depth x.nodes n) in
     let callers = callers_of h r.view.older in
-    let words = code_at h b n node in
-    let code_is : words ≡ implied_code locals k sel.args ++ answered_code locals k = code h.references _ locals _ deep in
+    let code_is : code_at h b n node ≡ implied_code 1 locals k sel.args ++ answered_code locals k = code h.references _ locals _ deep in
     let ready = (let P : List Insn → Type 0 = IsReady m m.pc (frame_words x) in subst P code_is (ready_at h b n node r can.left)) in
     let room = (can.runs b).room n in
     let enough = (can.runs b).takes n node r.node_is in
-    let a = implied_asks m m.pc (frame_words x) locals k sel.args (front_ready m m.pc (frame_words x) (implied_code locals k sel.args) (answered_code locals k) ready) few (omega (arith, room, enough, takes, depth_is x.nodes n)) in
-    asks_for z h s b n node sel.args (m.regs 24) k met f r can call (ap length code_is ∙ implied_long locals k k sel.args) a
-    (λ word known.
-    let raw = data_follows (raw_of h) s z f.stands at.young at.older v callers node at.at (implied sel.args (here_of s at.young at.older)) (implied_words sel.args v) sel.name.0 (met s at.young) word (is (raw_of h) s z f.stands at.young at.older v callers at.at) known in
-    (let P : ℕ → Type 0 = λ q. RawFollows z (becomes (raw_of h) (Going (moved_on (word ∷ drop q v.pending) v ∷ callers))) (step s) [] in subst P (sym takes) raw))
+    let dd = depth_is x.nodes n in
+    let a = implied_asks m m.pc (frame_words x) locals k sel.args (front_ready m m.pc (frame_words x) (implied_code 1 locals k sel.args) (answered_code locals k) ready) few (omega (arith, room, enough, takes, dd)) in
+    let long : length (code_at h b n node) ≡ sel.args + 3 = ap length code_is ∙ implied_long locals k k sel.args in
+    let t = there_at h b n node r.poll r.node_is in
+    record {
+      at = m.pc + 24 + 4 * (1 + sel.args);
+      receiver = m.regs 24;
+      first = k;
+      asks = a;
+      behind = behind_at h b n node sel.args r call long;
+      low = omega (arith, t.1.to, long);
+      takes = omega (arith, enough, dd);
+      sender = at.young;
+      older = at.older;
+      is_at = at.at;
+      message = implied sel.args (here_of s at.young at.older);
+      words = implied_words sel.args v;
+      send = is (raw_of h) s z f.stands at.young at.older v callers at.at;
+      receiver_is = sym a.receiver_is;
+      arguments =
+          ap (λ d. reverse (take sel.args (map (word_in_place m.memory (kept m.regs) (m.regs 14)) (pending_places locals d)))) dd
+          ∙ turned m.memory (kept m.regs) (m.regs 14) locals sel.args deep (omega (arith, enough, takes, dd))
+          ∙ sym (from_registers m a.to 9 locals k sel.args a.arguments);
+      rest = ap (λ q. drop q v.pending) (sym takes);
+    }
 
-pub self_asks : (sel : Selector) → WordsAsk (nodes.SelfSend sel) sel (λ s a. meets s a.receiver sel.name.0)
-self_asks sel = own_asks (nodes.SelfSend sel) sel (λ s a. meets s a.receiver sel.name.0) refl refl (λ r owns locals at k. refl) (λ r s z S a older f fs at. self_send_is r s z S a older f fs sel at)
-
-pub resend_asks : (sel : Selector) → WordsAsk (nodes.Resend sel) sel (λ s a. meets_above s a.holder sel.name.0)
-resend_asks sel = own_asks (nodes.Resend sel) sel (λ s a. meets_above s a.holder sel.name.0) refl refl (λ r owns locals at k. refl) (λ r s z S a older f fs at. resend_is r s z S a older f fs sel at)
-
-pub directed_asks : (parent : Name) (sel : Selector) → WordsAsk (nodes.Directed parent sel) sel (λ s a. meets_through s a.holder parent.0 sel.name.0)
-directed_asks parent sel = own_asks (nodes.Directed parent sel) sel (λ s a. meets_through s a.holder parent.0 sel.name.0) refl refl (λ r owns locals at k. refl) (λ r s z S a older f fs at. directed_is r s z S a older f fs parent sel at)
-
-pub stated_asks : (sel : Selector) → WordsAsk (nodes.Send sel) sel (λ s a. meets s (value_at a.pending sel.args) sel.name.0)
-stated_asks sel z h s b n f r can few =
+stated_sent : (sel : Selector) (z : Sense) (h : Host) (s : State) (b n : ℕ) → StandsFor z h s → (r : RunsAt h b n (nodes.Send sel)) → CanGo h → sel.args ≤ 5 → IsSent z h s b n (nodes.Send sel) sel r
+stated_sent sel z h s b n f r can few =
     let m = h.machine in
     let x = body_in h.bodies b in
     let locals = frame_locals x in
@@ -181,7 +195,68 @@ stated_asks sel z h s b n f r can few =
     let callers = callers_of h r.view.older in
     let room = (can.runs b).room n in
     let enough = (can.runs b).takes n node r.node_is in
-    let a = send_asks m m.pc (frame_words x) locals k sel.args (front_ready m m.pc (frame_words x) (send_code locals k sel.args) (answered_code locals k) (ready_at h b n node r can.left)) few (omega (arith, room, enough, depth_is x.nodes n)) in
+    let dd = depth_is x.nodes n in
+    let a = send_asks m m.pc (frame_words x) locals k sel.args (front_ready m m.pc (frame_words x) (send_code 1 locals k sel.args) (answered_code locals k) (ready_at h b n node r can.left)) few (omega (arith, room, enough, dd)) in
     let many : length at.young.pending ≡ depth x.nodes n = values_long z.cells z.places at.young.pending v.pending at.first.pending ∙ pending_long m.memory (kept m.regs) (m.regs 14) locals (depth x.nodes n) in
-    asks_for z h s b n node sel.args (word_at m.memory (m.regs 14 + pending_offset locals k)) (k + 1) (λ t y. meets t (value_at y.pending sel.args) sel.name.0) f r can refl (send_long locals k k sel.args) a
-    (λ word known. data_follows (raw_of h) s z f.stands at.young at.older v callers node at.at (stated sel.args (here_of s at.young at.older)) (stated_words sel.args v) sel.name.0 (meets s (value_at at.young.pending sel.args) sel.name.0) word (send_is (raw_of h) s z f.stands at.young at.older v callers sel at.at (omega (arith, many, enough))) known)
+    let long = send_long locals k k sel.args in
+    let t = there_at h b n node r.poll r.node_is in
+    let next : deep - sel.args ≡ k + 1 = omega (arith, enough, dd) in
+    record {
+      at = m.pc + 24 + 4 * (1 + sel.args);
+      receiver = word_at m.memory (m.regs 14 + pending_offset locals k);
+      first = k + 1;
+      asks = a;
+      behind = behind_at h b n node sel.args r refl long;
+      low = omega (arith, t.1.to, long);
+      takes = omega (arith, enough, dd);
+      sender = at.young;
+      older = at.older;
+      is_at = at.at;
+      message = stated sel.args (here_of s at.young at.older);
+      words = stated_words sel.args v;
+      send = send_is (raw_of h) s z f.stands at.young at.older v callers sel at.at (omega (arith, many, enough));
+      receiver_is = ap (λ d. get_or (map (word_in_place m.memory (kept m.regs) (m.regs 14)) (pending_places locals d)) sel.args 0) dd
+          ∙ under m.memory (kept m.regs) (m.regs 14) locals sel.args deep (omega (arith, enough, dd)) ∙ sym a.receiver_is;
+      arguments =
+          ap (λ d. reverse (take sel.args (map (word_in_place m.memory (kept m.regs) (m.regs 14)) (pending_places locals d)))) dd
+          ∙ turned m.memory (kept m.regs) (m.regs 14) locals sel.args deep (omega (arith, enough, dd))
+          ∙ ap (λ j. rising m.memory (m.regs 14) locals j sel.args) next
+          ∙ sym (from_registers m a.to 9 locals (k + 1) sel.args a.arguments);
+      rest = refl;
+    }
+
+pub nodes_send : NodesSend
+nodes_send z h s b n (nodes.Send sel) given e f r can few = (let P : Selector → Type 0 = λ y. IsSent z h s b n (nodes.Send sel) y r in subst P (some_is sel given e) (stated_sent sel z h s b n f r can (ap_few sel given e few)))
+nodes_send z h s b n (nodes.SelfSend sel) given e f r can few = (let P : Selector → Type 0 = λ y. IsSent z h s b n (nodes.SelfSend sel) y r in subst P (some_is sel given e)
+    (own_sent (nodes.SelfSend sel) sel refl refl (λ q owns locals at k. refl) (λ q t y S a older g fs at. self_send_is q t y S a older g fs sel at) z h s b n f r can (ap_few sel given e few)))
+nodes_send z h s b n (nodes.Resend sel) given e f r can few = (let P : Selector → Type 0 = λ y. IsSent z h s b n (nodes.Resend sel) y r in subst P (some_is sel given e)
+    (own_sent (nodes.Resend sel) sel refl refl (λ q owns locals at k. refl) (λ q t y S a older g fs at. resend_is q t y S a older g fs sel at) z h s b n f r can (ap_few sel given e few)))
+nodes_send z h s b n (nodes.Directed parent sel) given e f r can few = (let P : Selector → Type 0 = λ y. IsSent z h s b n (nodes.Directed parent sel) y r in subst P (some_is sel given e)
+    (own_sent (nodes.Directed parent sel) sel refl refl (λ q owns locals at k. refl) (λ q t y S a older g fs at. directed_is q t y S a older g fs parent sel at) z h s b n f r can (ap_few sel given e few)))
+nodes_send z h s b n _ given e f r can few = absurd (cc)
+
+pub data_answers_sends : DataAnswers
+data_answers_sends z h s b n node sel r q f can goal cost word few known =
+    let x = body_in h.bodies b in
+    let v = viewed h.machine b n (frame_locals x) (depth x.nodes n) in
+    let callers = callers_of h r.view.older in
+    let to = served h b n node word goal cost q.at q.receiver q.first sel.args r can few q.asks q.behind q.low q.takes in
+    let raw0 = data_follows (raw_of h) s z f.stands q.sender q.older v callers node q.is_at q.message q.words sel.name.0 (met_of node s q.sender) word q.send known in
+    let raw = (let P : List ℕ → Type 0 = λ ws. RawFollows z (becomes (raw_of h) (Going (moved_on (word ∷ ws) v ∷ callers))) (step s) [] in subst P q.rest raw0) in
+    let now : Thread = Going (moved_on (word ∷ drop (taken node) v.pending) v ∷ callers) in
+    record {
+      instructions = 1;
+      few = omega arith;
+      to = to.to;
+      goes = to.goes;
+      hosted = to.hosted;
+      goal = to.goal;
+      body = b;
+      number = n + 1;
+      next = to.next;
+      runs = to.runs;
+      sense = raw.to;
+      stands = stands_after z h (with_machine (data_answers goal cost word (with_machine h q.asks.to)) to.to) s (becomes (raw_of h) now) f to.raw refl refl refl raw;
+      counted = step_counted z h s now f raw;
+      silent = raw.same;
+    }

@@ -1,6 +1,6 @@
 -- What a service does to the counts and the control region leaves frames, units and heap.
 use Rattle.std.proofs.Common.{◌≡◌, ◌≢◌, ℕ, ◌+◌, ◌*◌, ◌/◌, ◌<◌, ◌≤◌, refl, ◌∙◌, ap, sym, subst, arith, inl, inr}
-use Rattle.std.specs.Prelude.{List, [], ◌∷◌, All}
+use Rattle.std.specs.Prelude.{suc, List, [], ◌∷◌, length, All}
 use Rattle.sparc_insn.specs.declared.insn.Insn.TheVariants.{Trap}
 use Rattle.std.proofs.lemmas.Grind.{common_steps}
 use Rattle.sparc_store.specs.Regions.{Place, Code, Heap, Control, Stacks, Nowhere, place_of}
@@ -14,10 +14,10 @@ use Rattle.source_model.specs.Soundness.{body_in}
 use Rattle.plain_runs.specs.Host.{Host, descriptor_at, heap_words}
 use Rattle.plain_runs.specs.Sound.{IsWindow, IsCaller, IsHeld, InFrame, IsHosted, callers_of, entry_frame, ending_stub}
 use Rattle.plain_runs.specs.Course.{with_machine, AllRun}
-use Rattle.plain_runs.proofs.Keeping.{unit_kept, stub_kept, caller_kept, held_kept, OthersWait}
+use Rattle.plain_runs.proofs.Keeping.{SameCode, unit_kept, stub_kept, caller_kept, held_kept, OthersWait}
 use Rattle.plain_runs.proofs.Working.{callers_have_room, held_have_room, same_stack, same_descriptors}
 use Rattle.plain_words.specs.Units.{frame_words}
-use Rattle.plain_sends.specs.Services.{with_left}
+use Rattle.plain_runs.specs.Services.{with_left}
 
 -- memory that changed in the two control words alone
 pub record Controlled (old new : Words) (goal : ℕ) : Type 0 where
@@ -51,7 +51,20 @@ controlled m goal cost whole = record {
   within = put_stays_within (with_word m 0x30000000 goal) 0x30000004 cost (put_stays_within m 0x30000000 goal whole);
 }
 
--- The host with another machine and other sums: its memory changed in the control words alone, the frame in view is the same.
+-- The host with another machine and other sums: of its memory code and stacks are the same, and so is the frame in view.
+pub record KeptTo (h : Host) (to : MachineState) (goal : ℕ) : Type 0 where
+  pub code : SameCode h.machine.memory to.memory
+  pub stacks : (b : ℕ) → 0x40000000 ≤ b → word_at to.memory b ≡ word_at h.machine.memory b
+  pub goal_is : word_at to.memory 0x30000000 ≡ goal
+  pub within : IsWithin to.memory
+  pub few : goal ≤ 1000000000
+  pub zero_is : to.regs 0 ≡ h.machine.regs 0
+  pub count : to.regs 4 ≡ h.machine.regs 4
+  pub frame : to.regs 14 ≡ h.machine.regs 14
+  pub window : (r : ℕ) → 16 ≤ r → to.regs r ≡ h.machine.regs r
+  pub older : to.older ≡ h.machine.older
+
+-- of its memory all but the control words is the same
 pub record SettledTo (h : Host) (to : MachineState) (goal : ℕ) : Type 0 where
   pub memory : Controlled h.machine.memory to.memory goal
   pub few : goal ≤ 1000000000
@@ -61,11 +74,28 @@ pub record SettledTo (h : Host) (to : MachineState) (goal : ℕ) : Type 0 where
   pub window : (r : ℕ) → 16 ≤ r → to.regs r ≡ h.machine.regs r
   pub older : to.older ≡ h.machine.older
 
-low_same : (h : Host) (to : MachineState) (goal : ℕ) → SettledTo h to goal → (b : ℕ) → b < 0x20000000 → word_at to.memory b ≡ word_at h.machine.memory b
-low_same h to goal s b low = s.memory.others b (λ e. absurd (omega (arith, e, low))) (λ e. absurd (omega (arith, e, low)))
+pub same_code : (old new : Words) (goal : ℕ) → Controlled old new goal → SameCode old new
+same_code old new goal c b low = c.others b (λ e. absurd (omega (arith, e, low))) (λ e. absurd (omega (arith, e, low)))
 
-high_same : (h : Host) (to : MachineState) (goal from end : ℕ) → SettledTo h to goal → 0x40000000 ≤ from → SameBetween from end h.machine.memory to.memory
-high_same h to goal from end s high b low below = s.memory.others b (λ e. absurd (omega (arith, e, low, high))) (λ e. absurd (omega (arith, e, low, high)))
+pub same_stacks : (old new : Words) (goal : ℕ) → Controlled old new goal → (b : ℕ) → 0x40000000 ≤ b → word_at new b ≡ word_at old b
+same_stacks old new goal c b high = c.others b (λ e. absurd (omega (arith, e, high))) (λ e. absurd (omega (arith, e, high)))
+
+pub kept_to : (h : Host) (to : MachineState) (goal : ℕ) → SettledTo h to goal → KeptTo h to goal
+kept_to h to goal s = record {
+  code = same_code h.machine.memory to.memory goal s.memory;
+  stacks = same_stacks h.machine.memory to.memory goal s.memory;
+  goal_is = s.memory.goal_is;
+  within = s.memory.within;
+  few = s.few;
+  zero_is = s.zero_is;
+  count = s.count;
+  frame = s.frame;
+  window = s.window;
+  older = s.older;
+}
+
+high_same : (h : Host) (to : MachineState) (goal from end : ℕ) → KeptTo h to goal → 0x40000000 ≤ from → SameBetween from end h.machine.memory to.memory
+high_same h to goal from end s high b low below = s.stacks b (omega (arith, low, high))
 
 -- frames that stand in a stack stand high
 stack_high : (k sp : ℕ) → sp / 0x02000000 ≡ entry_frame k / 0x02000000 → 0x40000000 ≤ sp
@@ -78,13 +108,13 @@ pub record StillThere (h : Host) (to : MachineState) (b older : ℕ) : Type 0 wh
   pub waits : OthersWait h (with_machine h to) 0 h.statuses
   pub callers : callers_of (with_machine h to) older ≡ callers_of h older
 
-pub settles : (h : Host) (to : MachineState) (b goal : ℕ) → (r : InFrame h b) → IsHosted h → AllRun h → SettledTo h to goal → StillThere h to b r.older
-settles h to b goal r hosted run s =
+pub stays_there : (h : Host) (to : MachineState) (b goal : ℕ) → (r : InFrame h b) → IsHosted h → AllRun h → KeptTo h to goal → StillThere h to b r.older
+stays_there h to b goal r hosted run s =
     let m = h.machine in
     let h2 = with_machine h to in
     let frames = callers_have_room h run in
     let held = held_have_room h run in
-    let low = low_same h to goal s in
+    let low = s.code in
     let w : Window = frame_before m.memory (m.regs 30) m.older in
     let high : 0x40000000 ≤ m.regs 30 = omega (arith, r.frame.place.1, r.frame.ends) in
     let rest = rests (descriptor_at h) (IsCaller h) (entry_frame h.current) ending_stub m.memory to.memory r.older (m.regs 30) w (m.regs 31 + 8) (but_first m.older) frames r.callers (high_same h to goal (m.regs 30) (entry_frame h.current + 64) s high) in
@@ -100,7 +130,7 @@ settles h to b goal r hosted run s =
     (subst (λ v. P (m.regs 30) (m.regs 31) v (but_first m.older)) (sym before) laid))) in
     record {
       hosted = record {
-        within = s.memory.within;
+        within = s.within;
         register_0 = s.zero_is ∙ hosted.register_0;
         windows = (let Q : List Window → Type 0 = λ z. All IsWindow z in subst Q (sym s.older) hosted.windows);
         units = λ u at given is stands. unit_kept h to u at low (hosted.units u at given is stands);
@@ -113,7 +143,7 @@ settles h to b goal r hosted run s =
             let q = (rests (descriptor_at h) (IsHeld h) (entry_frame k) ending_stub m.memory to.memory n sp (saved_at m.memory sp) pc [] held l (high_same h to goal sp (entry_frame k + 64) s up)).1 in
             let q2 = laid_as (IsHeld h) (IsHeld h2) (entry_frame k) ending_stub to.memory n sp (saved_at m.memory sp) pc [] (λ u a f x. held_kept h to u a f low x) q in
             (let Q : Window → Type 0 = λ v. AreLaid (IsHeld h2) (entry_frame k) ending_stub to.memory n sp v pc [] in subst Q (sym (saved_same m.memory to.memory sp (high_same h to goal sp (sp + 64) s up))) q2);
-        goal = omega (arith, s.memory.goal_is, s.few);
+        goal = omega (arith, s.goal_is, s.few);
       };
       view = record {
         sp = r.sp;
@@ -124,6 +154,7 @@ settles h to b goal r hosted run s =
         older = r.older;
         count = s.count ∙ r.count;
         few = r.few;
+        held = (let Q : List Window → Type 0 = λ z. length z ≤ suc r.older in subst Q (sym s.older) r.held);
         callers = laid2;
       };
       deep = refl;
@@ -141,3 +172,6 @@ settles h to b goal r hosted run s =
           ∙ ap (λ v. activations (descriptor_at h) to.memory r.older (m.regs 30) v (m.regs 31 + 8) (but_first m.older)) before
           ∙ rest.0;
     }
+
+pub settles : (h : Host) (to : MachineState) (b goal : ℕ) → (r : InFrame h b) → IsHosted h → AllRun h → SettledTo h to goal → StillThere h to b r.older
+settles h to b goal r hosted run s = stays_there h to b goal r hosted run (kept_to h to goal s)

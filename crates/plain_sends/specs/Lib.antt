@@ -1,4 +1,3 @@
 -- Sends in plain code.
-pub mod Services
 pub mod Sends
 pub mod Found

@@ -32,14 +32,14 @@ use Rattle.plain_words.specs.Units.{frame_locals, frame_words, owns_context, is_
 use Rattle.plain_words.proofs.Returning.{return_does}
 use Rattle.plain_runs.specs.Host.{Host, raw_of}
 use Rattle.plain_runs.specs.Sound.{InFrame, IsCaller, RunsAt, callers_of, entry_frame, ending_stub}
-use Rattle.plain_runs.specs.Course.{CanGo, code_at}
+use Rattle.plain_runs.specs.Course.{with_machine, CanGo, code_at}
 use Rattle.plain_runs.proofs.Ready.{ready_at}
 use Rattle.plain_runs.proofs.Pointed.{node_within}
 use Rattle.plain_runs.proofs.Popping.{answer_follow}
 use Rattle.plain_runs.specs.Units.{node_offset}
 use Rattle.plain_steps.specs.Steps.{WordsAnswer}
 use Rattle.plain_steps.proofs.Here.{at_node_of}
-use Rattle.plain_steps.proofs.Words.{depth_is, room_of}
+use Rattle.plain_steps.proofs.Words.{depth_is, room_of, stands_after, step_counted}
 
 first_laid : (asked : ℕ → ℕ → ℕ → Type 0) (entry end : ℕ) (memory : Words) (n sp : ℕ) (w : Window) (pc : ℕ) (held : List Window) → AreLaid asked entry end memory (suc n) sp w pc held → asked pc sp (w 14)
 unfolding AreLaid
@@ -114,18 +114,21 @@ answer_steps node ends code some z h s b n o f r can plain deep =
     let raw = plain_leaves (raw_of h) s z f.stands at.young at.older v (callers_of h r.view.older) node at.at none (some_pending z.cells z.places at.young.pending m b n locals (depth x.nodes n) j one at.first.pending) (answers_is s at.young at.older node ends) in
     let now : answered_to (callers_of h (suc o)) (word_at m.memory (m.regs 14 + pending_offset locals j)) ≡ answered_to (callers_of h r.view.older) (get_or v.pending 0 0) =
     ap (λ y. answered_to (callers_of h y) (word_at m.memory (m.regs 14 + pending_offset locals j))) (sym deep) ∙ ap (answered_to (callers_of h r.view.older)) (sym (youngest_is m b n locals (depth x.nodes n) j one)) in
-    let P : Raw → Type 0 = λ q. Stands raw.to q (step s).state in
+    let thread = answered_to (callers_of h r.view.older) (get_or v.pending 0 0) in
     record {
       instructions = a.instructions;
+      few = omega (arith, a.few);
       to = a.to;
       goes = a.goes;
       hosted = a.on.hosted;
+      goal = a.on.goal;
       body = a.body;
       number = a.number;
       next = a.next;
       runs = a.runs;
       sense = raw.to;
-      stands = subst P (sym (a.on.raw ∙ ap (becomes (raw_of h)) now)) raw.stands;
+      stands = stands_after z h (with_machine h a.to) s (becomes (raw_of h) thread) f (a.on.raw ∙ ap (becomes (raw_of h)) now) refl refl refl raw;
+      counted = step_counted z h s thread f raw;
       silent = raw.same;
     }
 

@@ -1,6 +1,6 @@
 -- The oldest activation of an activity ends.
 use Rattle.std.proofs.Common.{◌≡◌, ◌≢◌, ◌⊎◌, ℕ, zero, suc, ◌+◌, ◌-◌, ◌%◌, ◌<◌, ◌==◌, refl, ◌∙◌, ap, sym, subst, arith, inl, inr}
-use Rattle.std.specs.Prelude.{false, if◌then◌else◌, List, [], ◌∷◌, Some, slice_get, slice_set, get_or}
+use Rattle.std.specs.Prelude.{false, if◌then◌else◌, List, [], ◌∷◌, Some, slice_get, slice_set, get_or, All}
 use Rattle.std.proofs.lemmas.Grind.{common_steps}
 use Rattle.self_terms.specs.declared.nodes.Node.{Node}
 use Rattle.self_terms.specs.declared.nodes.Node.TheVariants as nodes
@@ -27,14 +27,22 @@ use Rattle.plain_words.specs.Showing.{viewed}
 use Rattle.plain_words.specs.Units.{frame_locals, frame_words, owns_context}
 use Rattle.plain_words.proofs.Basics.{at_trap}
 use Rattle.plain_words.proofs.Returning.{return_does}
-use Rattle.plain_runs.specs.Host.{Host, Status, Waiting, Answered, Failed, seen, waiting, thread_of, threads_from, raw_of, descriptor_at, heap_words}
-use Rattle.plain_runs.specs.Sound.{InFrame, IsCaller, RunsAt, callers_of, entry_frame, ending_stub}
-use Rattle.plain_runs.specs.Course.{CanGo, code_at}
+use Rattle.plain_runs.specs.Host.{Host, seen, waiting, thread_of, threads_from, raw_of, descriptor_at, heap_words}
+use Rattle.plain_runs.specs.declared.status.Status.{Status}
+use Rattle.plain_runs.specs.declared.status.Status.TheVariants.{Waiting, Answered, Failed}
+use Rattle.plain_runs.specs.Sound.{IsWindow, InFrame, IsCaller, RunsAt, callers_of, entry_frame, ending_stub}
+use Rattle.plain_runs.specs.Course.{with_machine, CanGo, code_at}
 use Rattle.plain_runs.proofs.Ready.{ready_at}
-use Rattle.plain_steps.specs.Steps.{WordsEnd, ended}
+use Rattle.plain_runs.specs.Services.{answered}
+use Rattle.plain_runs.proofs.Popping.{hosted_same, rest_windows}
+use Rattle.plain_steps.specs.Steps.{WordsEnd}
 use Rattle.plain_steps.proofs.Here.{at_node_of}
-use Rattle.plain_steps.proofs.Words.{depth_is, room_of}
+use Rattle.plain_steps.proofs.Words.{depth_is, room_of, stands_after, step_counted}
 use Rattle.plain_steps.proofs.Answering.{no_context, wants_none, some_pending, youngest_is}
+
+-- the host when the current activity has answered
+abbrev ended : Host → MachineState → Host
+ended h m = answered (with_machine h m)
 
 no_callers : (asked : ℕ → ℕ → ℕ → Type 0) (entry end : ℕ) (memory : Words) (sp : ℕ) (w : Window) (pc : ℕ) (held : List Window) → AreLaid asked entry end memory 0 sp w pc held → (sp ≡ entry) × (pc ≡ end)
 unfolding AreLaid
@@ -135,14 +143,18 @@ last_steps node ends code some z h s b n f r can plain last =
       steps = counted i;
       cost = ap (λ y. h.cost + y) R.cost i;
     } in
-    let P : Raw → Type 0 = λ q. Stands raw.to q (step s).state in
+    let thread = answered_to (callers_of h r.view.older) (get_or v.pending 0 0) in
+    let windows = (let P : List Window → Type 0 = λ y. All IsWindow y in subst P (sym R.older) (rest_windows m.older can.hosted.windows)) in
     record {
       instructions = e.instructions;
+      few = omega (arith, e.few);
       to = to;
       goes = e.goes;
       trap = at_trap to ending_stub (ending_stub + 4) 0 9 (Trap 9) stands a stub.0 refl tt;
       sense = raw.to;
-      stands = subst P (sym is) raw.stands;
+      hosted = hosted_same h to R.memory_is (R.register_0 ∙ can.hosted.register_0) windows can.hosted;
+      stands = stands_after z h (ended h to) s (becomes (raw_of h) thread) f is refl refl refl raw;
+      counted = step_counted z h s thread f raw;
       silent = raw.same;
     }
 

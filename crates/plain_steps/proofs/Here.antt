@@ -15,7 +15,9 @@ use Rattle.frame_walk.specs.Raw.{Thread, Going}
 use Rattle.raw_steps.specs.Stands.{Sense, IsActivity, IsActivation, IsAt, makes_blocks}
 use Rattle.plain_words.specs.Units.{frame_locals}
 use Rattle.plain_words.specs.Showing.{viewed}
-use Rattle.plain_runs.specs.Host.{Host, Status, Waiting, seen, waiting, thread_of, threads_from, raw_of, descriptor_at}
+use Rattle.plain_runs.specs.Host.{Host, seen, waiting, thread_of, threads_from, raw_of, descriptor_at}
+use Rattle.plain_runs.specs.declared.status.Status.{Status}
+use Rattle.plain_runs.specs.declared.status.Status.TheVariants.{Waiting}
 use Rattle.plain_runs.specs.Sound.{InFrame, RunsAt, callers_of}
 use Rattle.frame_walk.specs.Places.{Descriptor}
 use Rattle.frame_walk.specs.Walk.{activations}

@@ -5,3 +5,4 @@ pub mod Reading
 pub mod Restarting
 pub mod Storing
 pub mod Ending
+pub mod Summing

@@ -70,4 +70,4 @@ read_steps slot z h s b n f r can plain low =
     ∙ local_word m.memory (kept m.regs) (m.regs 14) (local_offset 0) locals slot low in
     let raw = read_own_follows (raw_of h) s z f.stands at.young at.older v (callers_of h r.view.older) slot at.at (omega (arith, many, low)) in
     let raw2 = (let P : ℕ → Type 0 = λ y. RawFollows z (becomes (raw_of h) (Going (moved_on (y ∷ v.pending) v ∷ callers_of h r.view.older))) (step s) [] in subst P own raw) in
-    pends z h s b n node word r can refl (λ q. omega arith) d2 raw2
+    pends z h s f b n node word r can refl (λ q. omega arith) d2 raw2

@@ -102,5 +102,5 @@ restart_steps z h s b n f r can holds =
     let counted : to.regs 2 ≡ m.regs 2 + 1 = mv.counted ∙ omega (arith, can.left, can.hosted.goal) in
     let shows = ap (viewed to b 0 locals) (depth_none x.nodes) ∙ left_shows m to first ((m.regs 2 + 1) % 2 ^ 32) locals 0 mv b n 0 in
     let v = view_on h b 0 node0.0 to _ r.view can.hosted can.runs can.current c mv.kept mv.older stands poll_first node0.1 shows in
-    meets_step z h s b 0 node0.0 _ (record { instructions = 7; to = to; goes = d.goes; on = view_goes_on h b 0 node0.0 to _ r.view.older v c.heap counted (mv.kept 3 refl) (mv.kept 6 refl); runs = v.runs })
+    meets_step z h s b 0 node0.0 _ f (record { instructions = 7; few = omega arith; to = to; goes = d.goes; on = view_goes_on h b 0 node0.0 to _ r.view.older v c.heap counted (mv.kept 3 refl) (mv.kept 6 refl); runs = v.runs })
     (restart_follows (raw_of h) s z f.stands at.young at.older _ _ at.at)

@@ -81,6 +81,8 @@ store_steps slot z h s b n f r can plain low =
     let d = store_does m m.pc (frame_words x) false locals j 0 slot ready (omega (arith, room)) (omega (arith, low, room)) in
     let to = d.to in
     let mv = d.moved in
+    let short = d.few in
+    let long_code : length (poll ++ store_code false locals j 0 slot) ≤ 128 = omega arith in
     let long = (let P : Bool → Type 0 = λ y. to.pc ≡ m.pc + 4 * length (poll ++ store_code y locals j 0 slot) in subst P (sym plain) mv.stands.here) in
     let p1 = placed sp (frame_words x) (local_offset slot) r.view.frame.place (omega arith) (omega (arith, low, room)) in
     let there : HasWord place = (let P : ℕ → Type 0 = HasWord in subst P p1.address p1.has) in
@@ -124,4 +126,4 @@ store_steps slot z h s b n f r can plain low =
     let kind_is : at.first.kind ≡ without = no_context z at.young v at.first.kind (sym at.first.wanted ∙ wants_none h s b at.young.body f.bodies at.first.body plain) at.first.locals in
     let none : v.context ≡ 0 = f.stands.heap.means.context at.young.number v.context without at.first.context (at.first.made ∙ ap Some kind_is) in
     let raw = plain_stores (raw_of h) s z f.stands at.young at.older v (callers_of h r.view.older) slot at.at none (some_pending z.cells z.places at.young.pending m b n locals (depth x.nodes n) j one at.first.pending) in
-    meets_step z h s b (n + 1) next.0 _ (record { instructions = d.instructions; to = to; goes = d.goes; on = view_goes_on h b (n + 1) next.0 to now r.view.older view c.heap counted (mv.kept 3 refl) (mv.kept 6 refl); runs = view.runs }) raw
+    meets_step z h s b (n + 1) next.0 _ f (record { instructions = d.instructions; few = omega (arith, short, long_code); to = to; goes = d.goes; on = view_goes_on h b (n + 1) next.0 to now r.view.older view c.heap counted (mv.kept 3 refl) (mv.kept 6 refl); runs = view.runs }) raw

@@ -3,9 +3,9 @@
 // Model: `StandsFor` (specs/Steps.antt) says that what machine and host show stands for a state of the source.
 // Promise: laws alone. From the poll of a node so many instructions lead to the poll of the next one, or to the service that an answer asks
 // for, and machine and host then stand for the state after the source's step: for literals, `self`, nil, the end of a statement, own locals
-// that a frame keeps, `_Restart`, and the end of an activation without a context.
+// that a frame keeps, `_Restart`, sums and differences of integers, and the end of an activation without a context.
 #![tactic(auto)]
 
 mod laws;
 
-pub use laws::{words_do_steps, words_end_activities};
+pub use laws::{primitives_perform, words_do_steps, words_end_activities};

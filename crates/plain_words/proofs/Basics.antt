@@ -1,6 +1,6 @@
 -- From one instruction to the next.
-use Rattle.std.proofs.Common.{◌≡◌, ◌≢◌, ℕ, zero, suc, ◌+◌, ◌*◌, ◌%◌, ◌^◌, ◌<◌, ◌≤◌, refl, ◌∙◌, ap, sym, subst, arith, inl, inr}
-use Rattle.std.specs.Prelude.{Option, Some, None, List, [], ◌∷◌, ◌++◌, length, Bool, true, false, not, nat_eq, ◌&&◌, if◌then◌else◌}
+use Rattle.std.proofs.Common.{◌≡◌, ℕ, zero, suc, ◌+◌, ◌*◌, ◌%◌, ◌^◌, ◌<◌, ◌≤◌, refl, ◌∙◌, ap, sym, subst, arith}
+use Rattle.std.specs.Prelude.{Option, Some, None, List, [], ◌∷◌, ◌++◌, length, Bool, false, not, nat_eq, ◌&&◌, if◌then◌else◌}
 use Rattle.sparc_insn.specs.declared.insn.Insn.{Insn}
 use Rattle.sparc_insn.specs.Instructions.{instruction}
 use Rattle.sparc_store.specs.Words.{Words, word_at, with_word}
@@ -8,7 +8,7 @@ use Rattle.sparc_store.proofs.Placed.{others_stay}
 use Rattle.sparc_machine.specs.State.{MachineState, with_reg}
 use Rattle.sparc_machine.specs.Table.{effect, CanDo}
 use Rattle.sparc_machine.specs.Running.{fetch, trap_of, CanStep, CanFetch}
-use Rattle.plain_words.specs.Going.{Stepped, Goes, IsTrap, At, Stands, StandsAt, IsCodeFrom}
+use Rattle.plain_words.specs.Going.{Stepped, Goes, IsTrap, At, Stands, IsCodeFrom}
 
 pub goes_none : (m : MachineState) → Goes 0 m m
 unfolding Goes

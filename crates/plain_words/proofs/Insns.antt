@@ -1,6 +1,6 @@
 -- The words of units are instructions of the table.
 use Rattle.std.proofs.Common.{◌≡◌, ℕ, zero, suc, ◌+◌, ◌-◌, ◌*◌, ◌^◌, ◌<◌, ◌≤◌, refl, subst, arith}
-use Rattle.std.specs.Prelude.{Some, Bool, true, false, List, [], ◌∷◌, ◌++◌, slice_get, length, map, ℤ, pos, negsuc}
+use Rattle.std.specs.Prelude.{Some, Bool, true, false, not, nat_eq, if◌then◌else◌, List, [], ◌∷◌, ◌++◌, slice_get, length, map, ℤ, pos, negsuc}
 use Rattle.std.proofs.lemmas.Grind.{common_steps}
 use Rattle.self_terms.specs.declared.nodes.Node.{Node}
 use Rattle.self_terms.specs.declared.nodes.Node.TheVariants as nodes
@@ -9,13 +9,15 @@ use Rattle.self_terms.specs.declared.bodies.Local.{Local}
 use Rattle.self_terms.specs.declared.values.Datum.{Datum}
 use Rattle.self_terms.specs.declared.values.Datum.TheVariants as datum
 use Rattle.self_terms.specs.Words.{IsSmall, word_of}
-use Rattle.self_terms.specs.Depths.{grown, depth, depth_from}
+use Rattle.self_terms.specs.Depths.{grown, depth, depth_from, one_if}
+use Rattle.self_terms.specs.declared.names.TheConstants.{INT_SUB}
 use Rattle.sparc_insn.specs.declared.insn.Insn.{Insn}
-use Rattle.sparc_insn.specs.declared.insn.Insn.TheVariants.{Trap}
+use Rattle.sparc_insn.specs.declared.insn.Insn.TheVariants.{Three, Trap}
+use Rattle.sparc_insn.specs.declared.insn.Operand.TheVariants.{Reg}
 use Rattle.sparc_insn.specs.Words.{IsInsn}
 use Rattle.frame_walk.specs.Places.{local_offset}
 use Rattle.plain_words.specs.declared.references.References.{References}
-use Rattle.plain_words.specs.Code.{poll, count, plus, holder_code, load, store, take, pend, constant_code, self_code, walk, reach, read_code, store_code, base_of, offset_of, arguments_code, send_code, implied_code, answered_code, return_code, non_local_code, argument_stores, initial_stores, kept_code, frame_code}
+use Rattle.plain_words.specs.Code.{poll, count, plus, holder_code, load, store, take, pend, constant_code, self_code, walk, reach, read_code, store_code, base_of, offset_of, arguments_code, handed_code, answered_code, is_sum, sum_op, summed_code, sum_code, primitive_code, return_code, non_local_code, argument_stores, initial_stores, kept_code, frame_code}
 use Rattle.plain_words.specs.Units.{node_code, restart_code, failing_code, nodes_code, entry_code, unit_code, datum_word, object_word, initial_words, frame_words, frame_locals, owns_context, deepest, larger}
 use Rattle.plain_words.specs.Translating.{IsShort, AreShort, IsSmallDatum, CanTranslate, AreWords}
 use Rattle.plain_words.specs.Putting.{AreInsns}
@@ -96,20 +98,41 @@ arguments_each : (to locals k n : ℕ) → to + n ≤ 32 → locals + k + n ≤ 
 arguments_each to locals k zero h r = tt
 arguments_each to locals k (suc n) h r = (take_is to locals k (omega arith) (omega arith), arguments_each (to + 1) locals (k + 1) n (omega arith) (omega arith))
 
-asks_is : IsInsn (Trap 1)
-asks_is = (omega arith, omega arith)
+handed_each : (implied : Bool) (locals k n : ℕ) → n ≤ 5 → locals + k + 6 ≤ 512 → Each (handed_code implied locals k n)
+handed_each true locals k n f h = ((omega arith, omega arith, omega arith, tt), arguments_each 9 locals k n (omega arith) (omega arith))
+handed_each false locals k n f h = (take_is 8 locals k (omega arith) (omega arith), arguments_each 9 locals (k + 1) n (omega arith) (omega arith))
 
-send_each : (locals k args at : ℕ) → args ≤ 5 → locals + k + 6 ≤ 512 → locals + at ≤ 512 → Each (send_code locals k args ++ answered_code locals at)
-send_each locals k args at f h a =
-    both (send_code locals k args) (answered_code locals at)
-    (take_is 8 locals k (omega arith) (omega arith), both (arguments_code 9 locals (k + 1) args) (Trap 1 ∷ []) (arguments_each 9 locals (k + 1) args (omega arith) (omega arith)) (asks_is, tt))
+call_each : (implied : Bool) (service locals k n at : ℕ) → 1 ≤ service → service ≤ 9 → n ≤ 5 → locals + k + 6 ≤ 512 → locals + at ≤ 512 → Each ((handed_code implied locals k n ++ (Trap service ∷ [])) ++ answered_code locals at)
+call_each implied service locals k n at low high f h a =
+    both (handed_code implied locals k n ++ (Trap service ∷ [])) (answered_code locals at)
+    (both (handed_code implied locals k n) (Trap service ∷ []) (handed_each implied locals k n f h) ((low, high), tt))
     (pend_is 8 locals at (omega arith) a, tt)
 
-implied_each : (locals k args at : ℕ) → args ≤ 5 → locals + k + 5 ≤ 512 → locals + at ≤ 512 → Each (implied_code locals k args ++ answered_code locals at)
-implied_each locals k args at f h a =
-    both (implied_code locals k args) (answered_code locals at)
-    ((omega arith, omega arith, omega arith, tt), both (arguments_code 9 locals k args) (Trap 1 ∷ []) (arguments_each 9 locals k args (omega arith) (omega arith)) (asks_is, tt))
+sum_is : (less : Bool) → IsInsn (Three (sum_op less) 1 8 (Reg 9))
+sum_is true = (omega arith, omega arith, omega arith, tt)
+sum_is false = (omega arith, omega arith, omega arith, tt)
+
+summed_each : (less : Bool) → Each (summed_code less)
+summed_each less = (
+  sum_is less,
+  ((omega arith, omega arith), ((omega arith, omega arith), ((omega arith, omega arith, omega arith, tt), ((omega arith, omega arith), (count_is, ((omega arith, omega arith), tt)))))),
+)
+
+sum_each : (less implied : Bool) (locals k n at : ℕ) → n ≤ 5 → locals + k + 6 ≤ 512 → locals + at ≤ 512 → Each (sum_code less implied locals k n ++ answered_code locals at)
+sum_each less implied locals k n at f h a =
+    both (sum_code less implied locals k n) (answered_code locals at)
+    (both (handed_code implied locals k n) (summed_code less) (handed_each implied locals k n f h) (summed_each less))
     (pend_is 8 locals at (omega arith) a, tt)
+
+either : (b : Bool) (x y rest : List Insn) → Each (x ++ rest) → Each (y ++ rest) → Each ((if b then x else y) ++ rest)
+either true x y rest h k = h
+either false x y rest h k = k
+
+primitive_each : (name args : ℕ) (implied : Bool) (locals k n at : ℕ) → n ≤ 5 → locals + k + 6 ≤ 512 → locals + at ≤ 512 → Each (primitive_code name args implied locals k n ++ answered_code locals at)
+primitive_each name args implied locals k n at f h a =
+    either (is_sum name args) (sum_code (nat_eq name INT_SUB.0) implied locals k n) (handed_code implied locals k n ++ (Trap 3 ∷ [])) (answered_code locals at)
+    (sum_each (nat_eq name INT_SUB.0) implied locals k n at f h a)
+    (call_each implied 3 locals k n at (omega arith) (omega arith) f h a)
 
 return_each : (owns : Bool) (locals k : ℕ) → locals + k ≤ 512 → Each (return_code owns locals k)
 return_each true locals k h = (
@@ -141,17 +164,19 @@ bare_each r owns locals at nodes.SelfRef k w h n s = self_each locals k (omega a
 bare_each r owns locals at nodes.Nil k w h n s = constant_each locals k r.nil (omega arith) w.nil
 bare_each r owns locals at (nodes.Read up slot) k w h n s = read_each owns locals k up slot (omega arith) s.1
 bare_each r owns locals at (nodes.Store up slot) k w h n s = store_each owns locals (k - 1) up slot (omega arith) s.1
-bare_each r owns locals at (nodes.Send sel) k w h n s = send_each locals (k - (sel.args + 1)) sel.args (k - (sel.args + 1)) s (omega arith) (omega arith)
-bare_each r owns locals at (nodes.SelfSend sel) k w h n s = implied_each locals (k - sel.args) sel.args (k - sel.args) s (omega arith) (omega arith)
-bare_each r owns locals at (nodes.Resend sel) k w h n s = implied_each locals (k - sel.args) sel.args (k - sel.args) s (omega arith) (omega arith)
-bare_each r owns locals at (nodes.Directed parent sel) k w h n s = implied_each locals (k - sel.args) sel.args (k - sel.args) s (omega arith) (omega arith)
+bare_each r owns locals at (nodes.Send sel) k w h n s = call_each false 1 locals (k - (sel.args + 1)) sel.args (k - (sel.args + 1)) (omega arith) (omega arith) s (omega arith) (omega arith)
+bare_each r owns locals at (nodes.SelfSend sel) k w h n s = call_each true 1 locals (k - sel.args) sel.args (k - sel.args) (omega arith) (omega arith) s (omega arith) (omega arith)
+bare_each r owns locals at (nodes.Resend sel) k w h n s = call_each true 1 locals (k - sel.args) sel.args (k - sel.args) (omega arith) (omega arith) s (omega arith) (omega arith)
+bare_each r owns locals at (nodes.Directed parent sel) k w h n s = call_each true 1 locals (k - sel.args) sel.args (k - sel.args) (omega arith) (omega arith) s (omega arith) (omega arith)
 bare_each r owns locals at nodes.Drop k w h n s = (count_is, tt)
 bare_each r owns locals at nodes.Restart k w h n s = restart_each (at + 6) (omega arith) (omega arith)
 bare_each r owns locals at nodes.Return k w h n s = return_each owns locals (k - 1) (omega arith)
 bare_each r owns locals at nodes.NonLocal k w h n s = non_local_each locals (k - 1) (omega arith)
 bare_each r owns locals at nodes.End k w h n s = return_each owns locals (k - 1) (omega arith)
 bare_each r owns locals at (nodes.BlockLit b) k w h n s = failing_each
-bare_each r owns locals at (nodes.Prim name args implied handler) k w h n s = failing_each
+bare_each r owns locals at (nodes.Prim name args implied handler) k w h n s =
+    let first = k - (args + one_if (not implied) + one_if handler) in
+    primitive_each name.0 args implied locals first (args + one_if handler) first s (omega arith) (omega arith)
 
 -- that many values are pending before a node, and before each behind it
 deep_here : (d : ℕ) (n : Node) (ns : List Node) → ((k : ℕ) → depth_from d (n ∷ ns) k ≤ 64) → d ≤ 64

@@ -4,11 +4,13 @@ pub mod Polls
 pub mod Placing
 pub mod Simple
 pub mod Reading
+pub mod Long
+pub mod Ints
 pub mod Sending
+pub mod Summing
 pub mod Returning
 pub mod Prologue
 pub mod Shown
 pub mod Growing
-pub mod Long
 pub mod Emitted
 pub mod Insns

@@ -3,13 +3,14 @@ use Rattle.std.proofs.Common.{◌≡◌, ℕ, zero, suc, ◌+◌, ◌-◌, ◌*�
 use Rattle.std.proofs.lemmas.Grind.{common_steps}
 use Rattle.self_terms.specs.declared.bodies.Body.{Body}
 use Rattle.self_terms.specs.declared.bodies.Local.{Local}
-use Rattle.self_terms.specs.Depths.{grown}
-use Rattle.std.specs.Prelude.{List, [], ◌∷◌, ◌++◌, Bool, true, false, length, map}
+use Rattle.self_terms.specs.Depths.{grown, one_if}
+use Rattle.self_terms.specs.declared.names.TheConstants.{INT_SUB}
+use Rattle.std.specs.Prelude.{List, [], ◌∷◌, ◌++◌, Bool, true, false, not, nat_eq, if◌then◌else◌, length, map}
 use Rattle.self_terms.specs.declared.nodes.Node.{Node}
 use Rattle.self_terms.specs.declared.nodes.Node.TheVariants as nodes
 use Rattle.sparc_insn.specs.declared.insn.Insn.TheVariants.{Trap}
 use Rattle.plain_words.specs.declared.references.References.{References}
-use Rattle.plain_words.specs.Code.{poll, walk, reach, arguments_code, send_code, implied_code, answered_code, read_code, store_code, return_code, argument_stores, initial_stores, plus, count}
+use Rattle.plain_words.specs.Code.{poll, walk, reach, arguments_code, handed_code, answered_code, is_sum, summed_code, sum_code, primitive_code, read_code, store_code, return_code, argument_stores, initial_stores, plus, count}
 use Rattle.plain_words.specs.Units.{node_code, nodes_code, entry_code, unit_code, initial_words, datum_word, owns_context, frame_locals, frame_words, deepest}
 use Rattle.plain_words.specs.Translating.{IsShort, AreShort}
 
@@ -31,31 +32,52 @@ read_long owns locals k up slot = length-append (reach up) _ ∙ ap (λ n. n + 3
 store_long : (owns : Bool) (locals k up slot : ℕ) → length (store_code owns locals k up slot) ≡ up + 4
 store_long owns locals k up slot = length-append (reach up) _ ∙ ap (λ n. n + 4) (reach_long up)
 
-send_long : (locals k args at : ℕ) → length (send_code locals k args ++ answered_code locals at) ≡ args + 3
-send_long locals k args at =
-    let both = length-append (send_code locals k args) (answered_code locals at) in
-    let front = length-append (arguments_code 9 locals (k + 1) args) (Trap 1 ∷ []) in
-    let many = arguments_long 9 locals (k + 1) args in
+pub handed_long : (implied : Bool) (locals k n : ℕ) → length (handed_code implied locals k n) ≡ 1 + n
+handed_long true locals k n = let e = arguments_long 9 locals k n in omega arith
+handed_long false locals k n = let e = arguments_long 9 locals (k + 1) n in omega arith
+
+call_long : (implied : Bool) (locals k n at service : ℕ) → length ((handed_code implied locals k n ++ (Trap service ∷ [])) ++ answered_code locals at) ≡ n + 3
+call_long implied locals k n at service =
+    let both = length-append (handed_code implied locals k n ++ (Trap service ∷ [])) (answered_code locals at) in
+    let front = length-append (handed_code implied locals k n) (Trap service ∷ []) in
+    let many = handed_long implied locals k n in
     omega arith
 
-implied_long : (locals k args at : ℕ) → length (implied_code locals k args ++ answered_code locals at) ≡ args + 3
-implied_long locals k args at =
-    let both = length-append (implied_code locals k args) (answered_code locals at) in
-    let front = length-append (arguments_code 9 locals k args) (Trap 1 ∷ []) in
-    let many = arguments_long 9 locals k args in
+sum_long : (less implied : Bool) (locals k n at : ℕ) → length (sum_code less implied locals k n ++ answered_code locals at) ≡ n + 9
+sum_long less implied locals k n at =
+    let both = length-append (sum_code less implied locals k n) (answered_code locals at) in
+    let front = length-append (handed_code implied locals k n) (summed_code less) in
+    let many = handed_long implied locals k n in
+    omega arith
+
+-- a sum has one argument, and so at most two values with a handler
+sum_few : (name args : ℕ) (handler : Bool) → is_sum name args ≡ true → args + one_if handler ≤ 2
+sum_few name args true h = grind (arith, common_steps)
+sum_few name args false h = grind (arith, common_steps)
+
+primitive_long : (sum : Bool) (name args : ℕ) (implied handler : Bool) (locals k at : ℕ) → is_sum name args ≡ sum → args + one_if handler ≤ 5
+    → length (primitive_code name args implied locals k (args + one_if handler) ++ answered_code locals at) ≤ 11
+primitive_long true name args implied handler locals k at e h =
+    let long = ap (λ b. length ((if b then sum_code (nat_eq name INT_SUB.0) implied locals k (args + one_if handler) else (handed_code implied locals k (args + one_if handler) ++ (Trap 3 ∷ []))) ++ answered_code locals at)) e in
+    let sum = sum_long (nat_eq name INT_SUB.0) implied locals k (args + one_if handler) at in
+    let few = sum_few name args handler e in
+    omega arith
+primitive_long false name args implied handler locals k at e h =
+    let long = ap (λ b. length ((if b then sum_code (nat_eq name INT_SUB.0) implied locals k (args + one_if handler) else (handed_code implied locals k (args + one_if handler) ++ (Trap 3 ∷ []))) ++ answered_code locals at)) e in
+    let call = call_long implied locals k (args + one_if handler) at 3 in
     omega arith
 
 return_long : (owns : Bool) (locals k : ℕ) → length (return_code owns locals k) ≤ 6
 return_long true locals k = omega arith
 return_long false locals k = omega arith
 
-bare_long : (out : ℕ) (r : References) (owns : Bool) (locals at : ℕ) (node : Node) (k : ℕ) → 4 ≤ out → IsShort out node → length (node_code r owns locals at node k) ≤ out + 4
+bare_long : (out : ℕ) (r : References) (owns : Bool) (locals at : ℕ) (node : Node) (k : ℕ) → 7 ≤ out → IsShort out node → length (node_code r owns locals at node k) ≤ out + 4
 bare_long out r owns locals at (nodes.Read up slot) k h s = let e = read_long owns locals k up slot in let b = s.0 in omega arith
 bare_long out r owns locals at (nodes.Store up slot) k h s = let e = store_long owns locals (k - 1) up slot in let b = s.0 in omega arith
-bare_long out r owns locals at (nodes.Send sel) k h s = let e = send_long locals (k - (sel.args + 1)) sel.args (k - (sel.args + 1)) in omega arith
-bare_long out r owns locals at (nodes.SelfSend sel) k h s = let e = implied_long locals (k - sel.args) sel.args (k - sel.args) in omega arith
-bare_long out r owns locals at (nodes.Resend sel) k h s = let e = implied_long locals (k - sel.args) sel.args (k - sel.args) in omega arith
-bare_long out r owns locals at (nodes.Directed parent sel) k h s = let e = implied_long locals (k - sel.args) sel.args (k - sel.args) in omega arith
+bare_long out r owns locals at (nodes.Send sel) k h s = let e = call_long false locals (k - (sel.args + 1)) sel.args (k - (sel.args + 1)) 1 in omega arith
+bare_long out r owns locals at (nodes.SelfSend sel) k h s = let e = call_long true locals (k - sel.args) sel.args (k - sel.args) 1 in omega arith
+bare_long out r owns locals at (nodes.Resend sel) k h s = let e = call_long true locals (k - sel.args) sel.args (k - sel.args) 1 in omega arith
+bare_long out r owns locals at (nodes.Directed parent sel) k h s = let e = call_long true locals (k - sel.args) sel.args (k - sel.args) 1 in omega arith
 bare_long out r owns locals at nodes.Return k h s = let e = return_long owns locals (k - 1) in omega arith
 bare_long out r owns locals at nodes.End k h s = let e = return_long owns locals (k - 1) in omega arith
 bare_long out r owns locals at (nodes.Int i) k h s = omega arith
@@ -66,10 +88,13 @@ bare_long out r owns locals at nodes.Drop k h s = omega arith
 bare_long out r owns locals at nodes.Restart k h s = omega arith
 bare_long out r owns locals at nodes.NonLocal k h s = omega arith
 bare_long out r owns locals at (nodes.BlockLit b) k h s = omega arith
-bare_long out r owns locals at (nodes.Prim name args implied handler) k h s = omega arith
+bare_long out r owns locals at (nodes.Prim name args implied handler) k h s =
+    let first = k - (args + one_if (not implied) + one_if handler) in
+    let e = primitive_long (is_sum name.0 args) name.0 args implied handler locals first first refl s in
+    omega arith
 
 -- a node with its poll, where locals stand at most so many bodies out
-pub node_long : (out : ℕ) (r : References) (owns : Bool) (locals at : ℕ) (node : Node) (k : ℕ) → 4 ≤ out → IsShort out node → length (poll ++ node_code r owns locals at node k) ≤ out + 10
+pub node_long : (out : ℕ) (r : References) (owns : Bool) (locals at : ℕ) (node : Node) (k : ℕ) → 7 ≤ out → IsShort out node → length (poll ++ node_code r owns locals at node k) ≤ out + 10
 node_long out r owns locals at node k h s = let e = bare_long out r owns locals at node k h s in omega arith
 
 argument_stores_long : (register slot n : ℕ) → length (argument_stores register slot n) ≡ n
@@ -84,7 +109,7 @@ initial_long : (r : References) (xs : List Local) → length (map (λ x. datum_w
 initial_long r [] = refl
 initial_long r (x ∷ xs) = let e = initial_long r xs in omega arith
 
-entry_long : (r : References) (b : Body) → length (entry_code r b) ≡ 9 + length b.arguments + 3 * length b.locals
+pub entry_long : (r : References) (b : Body) → length (entry_code r b) ≡ 9 + length b.arguments + 3 * length b.locals
 entry_long r b =
     let n = length b.arguments in
     let initial = initial_words r b in
@@ -98,7 +123,7 @@ entry_long r b =
 more : (a n p q s : ℕ) → p ≤ a → q ≤ a * n → s ≡ p + q → s ≤ a * suc n
 more a n p q s h k e = let m : a * suc n ≡ a + a * n = grind (arith, common_steps) in omega arith
 
-nodes_long : (out : ℕ) (r : References) (owns : Bool) (locals at d : ℕ) (ns : List Node) → 4 ≤ out → AreShort out ns → length (nodes_code r owns locals at d ns) ≤ (out + 10) * length ns
+nodes_long : (out : ℕ) (r : References) (owns : Bool) (locals at d : ℕ) (ns : List Node) → 7 ≤ out → AreShort out ns → length (nodes_code r owns locals at d ns) ≤ (out + 10) * length ns
 nodes_long out r owns locals at d [] h short = omega arith
 nodes_long out r owns locals at d (x ∷ xs) h short =
     let P = poll ++ node_code r owns locals at x d in
@@ -107,7 +132,7 @@ nodes_long out r owns locals at d (x ∷ xs) h short =
     let sum : length (P ++ nodes_code r owns locals (at + length P) (grown x d) xs) ≡ length P + length (nodes_code r owns locals (at + length P) (grown x d) xs) = length-append P (nodes_code r owns locals (at + length P) (grown x d) xs) in
     more (out + 10) (length xs) (length P) _ _ long rest sum
 
-pub unit_long : (out : ℕ) (r : References) (b : Body) → 4 ≤ out → AreShort out b.nodes → length (unit_code r b) ≤ (out + 10) * length b.nodes + 16 * (length b.arguments + length b.locals) + 64
+pub unit_long : (out : ℕ) (r : References) (b : Body) → 7 ≤ out → AreShort out b.nodes → length (unit_code r b) ≤ (out + 10) * length b.nodes + 16 * (length b.arguments + length b.locals) + 64
 unit_long out r b h short =
     let nodes = nodes_long out r (owns_context b) (frame_locals b) 0 0 b.nodes h short in
     let entry = entry_long r b in

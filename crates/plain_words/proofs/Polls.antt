@@ -1,18 +1,18 @@
 -- The poll before a node, and straight code behind it.
-use Rattle.std.proofs.Common.{◌≡◌, ℕ, suc, ◌+◌, ◌*◌, ◌%◌, ◌^◌, ◌<◌, ◌≤◌, refl, ◌∙◌, ap, sym, subst, arith, inl, inr}
-use Rattle.std.specs.Prelude.{Bool, true, false, nat_lt, List, [], ◌∷◌, ◌++◌, length, pos}
+use Rattle.std.proofs.Common.{◌≡◌, ℕ, ◌+◌, ◌*◌, ◌%◌, ◌^◌, ◌<◌, refl, ◌∙◌, ap, sym, arith, inl, inr}
+use Rattle.std.specs.Prelude.{true, false, nat_lt, List, [], ◌∷◌, ◌++◌, length, pos}
 use Rattle.sparc_insn.specs.declared.insn.Insn.{Insn}
-use Rattle.sparc_insn.specs.declared.insn.Insn.TheVariants.{Sethi, Branch, Three, Trap}
-use Rattle.sparc_insn.specs.declared.insn.Operand.TheVariants.{Reg, Imm}
+use Rattle.sparc_insn.specs.declared.insn.Insn.TheVariants.{Sethi, Branch, Three}
+use Rattle.sparc_insn.specs.declared.insn.Operand.TheVariants.{Reg}
 use Rattle.sparc_insn.specs.declared.insn.Op3.TheVariants as ops
 use Rattle.sparc_store.specs.Words.{Words, word_at, HasWord}
 use Rattle.sparc_machine.specs.State.{MachineState}
 use Rattle.sparc_machine.specs.Alu.{holds}
 use Rattle.sparc_machine.specs.Table.{effect, transferred, went, words_on, branched}
-use Rattle.plain_words.specs.Going.{Stepped, Goes, IsTrap, At, Stands, StandsAt, IsCodeFrom}
+use Rattle.plain_words.specs.Going.{Goes, At, StandsAt, IsCodeFrom}
 use Rattle.plain_words.specs.Code.{poll, nop, load}
-use Rattle.plain_words.specs.Moves.{is_scratch, IsReady, Moved, Does}
-use Rattle.plain_words.proofs.Basics.{goes_none, goes_on, goes_then, on, jumps, stepped, stepped_to, at_trap, code_behind, at_front, at_behind, stands_as}
+use Rattle.plain_words.specs.Moves.{is_scratch, IsReady, Does}
+use Rattle.plain_words.proofs.Basics.{goes_none, goes_on, goes_then, on, jumps, stepped, stepped_to, code_behind, at_front, at_behind, stands_as}
 use Rattle.plain_words.proofs.Straight.{straight, all_straight, all_spare, CanAll, goes_straight, straight_spares, straight_older}
 
 pub has_control : HasWord 0x30000000
@@ -84,6 +84,7 @@ node_does is m p words memory r all spare can e counted =
     let g = node_goes is m p words r all can in
     record {
       instructions = 5 + length is;
+      few = omega arith;
       to = straight is (polled m);
       goes = g.0;
       moved = record {

@@ -1,26 +1,25 @@
 -- A method is entered.
-use Rattle.std.proofs.Common.{◌≡◌, ℕ, zero, suc, ◌+◌, ◌-◌, ◌*◌, ◌/◌, ◌%◌, ◌^◌, ◌<◌, ◌≤◌, refl, ◌∙◌, ap, sym, subst, arith, inl, inr, length-append}
+use Rattle.std.proofs.Common.{◌≡◌, ℕ, zero, suc, ◌+◌, ◌-◌, ◌*◌, ◌/◌, ◌%◌, ◌^◌, ◌<◌, ◌≤◌, refl, ◌∙◌, ap, sym, subst, arith, inl}
 use Rattle.std.specs.Prelude.{Bool, true, false, if◌then◌else◌, nat_eq, bit_or, ◌&&◌, not, List, [], ◌∷◌, ◌++◌, length, pos, negsuc}
-use Rattle.std.proofs.lemmas.Grind.{common_steps}
 use Rattle.std.specs.Int.Bits.{or_zero_r}
 use Rattle.sparc_insn.specs.declared.insn.Insn.{Insn}
 use Rattle.sparc_insn.specs.declared.insn.Insn.TheVariants.{Three, Branch}
-use Rattle.sparc_insn.specs.declared.insn.Operand.TheVariants.{Reg, Imm}
+use Rattle.sparc_insn.specs.declared.insn.Operand.TheVariants.{Imm}
 use Rattle.sparc_insn.specs.declared.insn.Op3.TheVariants as ops
 use Rattle.sparc_insn.specs.Instructions.{instruction}
 use Rattle.sparc_store.specs.Words.{Words, word_at, with_word, HasWord, HasFrame, IsWithin}
-use Rattle.sparc_store.specs.Windows.{IsPlace, CanSave, kept, with_room, but_spilled, is_full, words_of, oldest, oldest_at, with_spilled}
+use Rattle.sparc_store.specs.Windows.{IsPlace, with_room, is_full, words_of, oldest, oldest_at, with_spilled}
 use Rattle.sparc_store.proofs.Framing.{framed}
-use Rattle.sparc_machine.specs.State.{MachineState, stack_of, with_reg}
-use Rattle.sparc_machine.specs.Alu.{add, sub, holds}
+use Rattle.sparc_machine.specs.State.{MachineState, with_reg}
+use Rattle.sparc_machine.specs.Alu.{add}
 use Rattle.sparc_machine.specs.Table.{effect, transferred, jumped, words_on, branched}
 use Rattle.frame_walk.specs.Places.{holder_offset, local_offset}
-use Rattle.plain_words.specs.Going.{Stepped, Goes, At, Stands, StandsAt, IsCodeFrom}
-use Rattle.plain_words.specs.Code.{store, move, plus, count, set_word, frame_code, holder_code, argument_stores, initial_stores, kept_code, method_code}
-use Rattle.plain_words.specs.Moves.{CanEnter, Entered, Enters, entered_memory, handed_holder, with_words, registers_from}
-use Rattle.plain_words.proofs.Basics.{goes_then, goes_on, goes_none, on, jumps, stepped, stepped_to, code_behind, at_front, at_behind, stands_as, other_register, unwrapped}
+use Rattle.plain_words.specs.Going.{Stepped, Goes, At, StandsAt, IsCodeFrom}
+use Rattle.plain_words.specs.Code.{store, move, plus, count, set_word, holder_code, argument_stores, initial_stores, kept_code, method_code}
+use Rattle.plain_words.specs.Moves.{CanEnter, Enters, entered_memory, handed_holder, with_words, registers_from}
+use Rattle.plain_words.proofs.Basics.{goes_then, goes_on, goes_none, on, jumps, stepped, stepped_to, at_front, at_behind, stands_as, other_register, unwrapped}
 use Rattle.plain_words.proofs.Straight.{straight, all_straight, CanAll, goes_straight, both_straight, can_both, straight_on}
-use Rattle.plain_words.proofs.Placing.{IsPlaced, placed, two_parts}
+use Rattle.plain_words.proofs.Placing.{placed, two_parts}
 
 -- The oldest frame that is held may be saved in its stack: the code stays.
 at_apart : (is : List Insn) (old new : Words) (p : ℕ) → ((b : ℕ) → b < 0x20000000 → word_at new b ≡ word_at old b) → p + 4 * length is ≤ 0x20000000 → At old p is → At new p is
@@ -120,6 +119,7 @@ registers_long f r (suc n) = ap suc (registers_long f (r + 1) n)
 -- The holder is the word that was handed over, or the receiver.
 pub record HolderFound (x : MachineState) (p : ℕ) : Type 0 where
   pub instructions : ℕ
+  pub few : instructions ≤ 3
   pub to : MachineState
   pub goes : Goes instructions x to
   pub stands : StandsAt to p
@@ -158,6 +158,7 @@ by_holder x p words s1 a1 a2 at true e test first =
     let s3 = on t.pc t.npc (p + 4 + 4) (p + 4 + 4 * 2) s2 (omega (arith, a1.to)) in
     record {
       instructions = 3;
+      few = omega arith;
       to = z;
       goes =
           goes_on 2 x y z first
@@ -177,6 +178,7 @@ by_holder x p words s1 a1 a2 at false e test first =
     let here : (y.npc + 4) % 2 ^ 32 ≡ p + 12 = ap (λ n. (n + 4) % 2 ^ 32) s1.next ∙ omega (arith, a1.to) in
     record {
       instructions = 2;
+      few = omega arith;
       to = t;
       goes = goes_on 1 x y t first (goes_on 0 y t t (stepped_to y t (p + 4) (p + 4 + 4) (suc words) (Branch true 1 (pos 2)) s1 a1 at.1.0 refl tt passed) (goes_none t));
       stands = record { here = here; next = ap (λ n. (n + 4) % 2 ^ 32) here ∙ unwrapped (p + 12 + 4) (omega (arith, a1.to)) };
@@ -305,6 +307,7 @@ method_enters m p words arguments initial c =
     let args : registers_from t.regs 25 arguments ≡ registers_from m.regs 9 arguments = from_to arguments 25 9 t.regs m.regs (λ j lt. arrived m t bytes j h.regs (omega (arith, c.few))) in
     record {
       instructions = suc (h.instructions + length (kept_code arguments initial));
+      few = omega (arith, h.few, n, c.stands.here);
       to = to;
       goes = goes_on (h.instructions + length (kept_code arguments initial)) m x to (stepped m p (p + 4) _ (Three ops.Save 14 14 (Imm (negsuc (bytes - 1)))) c.stands a c.code_there.0 refl c.can_save)
           (goes_then h.instructions (length (kept_code arguments initial)) x t to h.goes g.0);
@@ -324,6 +327,7 @@ method_enters m p words arguments initial c =
         activations = f.activations ∙ ap (λ z. (z + 1) % 2 ^ 32) (h.regs 4 refl);
         cost = f.kept 3 refl refl refl refl refl ∙ h.regs 3 refl;
         top = f.kept 6 refl refl refl refl refl ∙ h.regs 6 refl;
+        register_0 = f.kept 0 refl refl refl refl refl ∙ h.regs 0 refl ∙ c.register_0;
         older = f.older ∙ h.older;
       };
     }

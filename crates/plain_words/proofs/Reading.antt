@@ -1,6 +1,6 @@
 -- Locals are read and stored, in the frame and in contexts.
-use Rattle.std.proofs.Common.{◌≡◌, ℕ, zero, suc, ◌+◌, ◌*◌, ◌/◌, ◌%◌, ◌^◌, ◌<◌, ◌≤◌, refl, ◌∙◌, ap, sym, subst, arith, inl, inr}
-use Rattle.std.specs.Prelude.{Bool, true, false, if◌then◌else◌, nat_eq, List, [], ◌∷◌, ◌++◌, length}
+use Rattle.std.proofs.Common.{◌≡◌, ℕ, zero, suc, ◌+◌, ◌*◌, ◌%◌, ◌^◌, ◌<◌, ◌≤◌, refl, ◌∙◌, ap, sym, subst, arith, inl, inr}
+use Rattle.std.specs.Prelude.{Bool, true, false, nat_eq, List, [], ◌∷◌}
 use Rattle.std.specs.Int.Bits.{or_zero_r}
 use Rattle.sparc_insn.specs.declared.insn.Insn.{Insn}
 use Rattle.sparc_store.specs.Words.{Words, word_at, with_word, HasWord, HasFrame}
@@ -9,7 +9,7 @@ use Rattle.sparc_machine.specs.Alu.{add}
 use Rattle.sparc_machine.specs.Table.{effect}
 use Rattle.frame_walk.specs.Places.{pending_offset, local_offset}
 use Rattle.plain_words.specs.Code.{load, store, move, pend, take, count, walk, reach, base_of, offset_of, context_offset, read_code, store_code}
-use Rattle.plain_words.specs.Moves.{is_scratch, IsReady, Does, pended, IsContext, around, AreAround, local_address, HasLocal, assigned}
+use Rattle.plain_words.specs.Moves.{IsReady, Does, pended, IsContext, around, AreAround, local_address, HasLocal, assigned}
 use Rattle.plain_words.proofs.Basics.{other_register}
 use Rattle.plain_words.proofs.Straight.{straight, all_straight, all_spare, CanAll, both_straight, both_spare, can_both, straight_on}
 use Rattle.plain_words.proofs.Placing.{IsPlaced, placed}

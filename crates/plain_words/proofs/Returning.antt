@@ -1,5 +1,5 @@
 -- An activation ends.
-use Rattle.std.proofs.Common.{◌≡◌, ℕ, zero, suc, ◌+◌, ◌-◌, ◌*◌, ◌/◌, ◌%◌, ◌^◌, ◌<◌, ◌≤◌, refl, ◌∙◌, ap, sym, subst, arith, inl, inr}
+use Rattle.std.proofs.Common.{◌≡◌, ℕ, ◌+◌, ◌-◌, ◌*◌, ◌%◌, ◌^◌, ◌<◌, ◌≤◌, refl, ◌∙◌, ap, sym, subst, arith}
 use Rattle.std.proofs.Common.{length-append}
 use Rattle.std.specs.Prelude.{Bool, true, false, if◌then◌else◌, nat_eq, nat_lt, List, [], ◌∷◌, ◌++◌, length, pos}
 use Rattle.std.proofs.lemmas.Grind.{common_steps}
@@ -7,7 +7,7 @@ use Rattle.sparc_insn.specs.declared.insn.Insn.{Insn}
 use Rattle.sparc_insn.specs.declared.insn.Insn.TheVariants.{Three}
 use Rattle.sparc_insn.specs.declared.insn.Operand.TheVariants.{Reg, Imm}
 use Rattle.sparc_insn.specs.declared.insn.Op3.TheVariants as ops
-use Rattle.sparc_store.specs.Words.{Words, word_at, with_word, HasWord}
+use Rattle.sparc_store.specs.Words.{Words, word_at, with_word}
 use Rattle.sparc_store.specs.Windows.{IsPlace, frame_before, but_first}
 use Rattle.sparc_machine.specs.State.{MachineState, with_reg, gone_back, in_older_frame}
 use Rattle.sparc_machine.specs.Alu.{add, sub}
@@ -15,8 +15,8 @@ use Rattle.sparc_machine.specs.Table.{effect}
 use Rattle.plain_words.specs.Going.{Goes, At, Stands, StandsAt, IsCodeFrom}
 use Rattle.frame_walk.specs.Places.{pending_offset}
 use Rattle.plain_words.specs.Code.{poll, take, count, ended_context, return_code}
-use Rattle.plain_words.specs.Moves.{IsReady, Ends, Returned, CanReturn, HasContext, IsContext, unmarked}
-use Rattle.plain_words.proofs.Basics.{goes_then, goes_on, goes_none, on, stepped, at_front, at_behind, stands_as, other_register, unwrapped}
+use Rattle.plain_words.specs.Moves.{IsReady, Ends, Returned, CanReturn, HasContext, unmarked}
+use Rattle.plain_words.proofs.Basics.{goes_then, goes_on, goes_none, stepped, at_front, at_behind, other_register, unwrapped}
 use Rattle.plain_words.proofs.Straight.{straight, zero_takes, all_straight, CanAll, goes_straight, code_stays}
 use Rattle.plain_words.proofs.Placing.{placed}
 use Rattle.plain_words.proofs.Polls.{polled, poll_goes}
@@ -137,6 +137,7 @@ return_does m p words false locals k r room h can =
     let leave = can_still m t can refl refl refl in
     record {
       instructions = 5 + length (ending false locals k) + 2;
+      few = omega arith;
       to = _;
       goes = ended m p words false locals k r refl (d.has, (tt, (tt, tt))) leave;
       returned = returned m t (unmarked m false) _ leave refl (ap (word_at m.memory) d.address) refl refl refl refl refl refl refl refl;
@@ -148,6 +149,7 @@ return_does m p words true locals k r room h can =
     let leave = can_still m t can refl refl refl in
     record {
       instructions = 5 + length (ending true locals k) + 2;
+      few = omega arith;
       to = _;
       goes = ended m p words true locals k r refl (d.has, (tt, (tt, ((w.1, w.2), tt)))) leave;
       returned = returned m t (unmarked m true) _ leave (ap (λ z. with_word m.memory z (t.regs 0)) w.0 ∙ ap (with_word m.memory (m.regs 17 + 7)) (zero_stays m)) (ap (word_at m.memory) d.address) refl refl refl refl refl refl refl refl;

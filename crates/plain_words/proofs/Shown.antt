@@ -1,14 +1,14 @@
 -- What the frame in view shows after a node.
-use Rattle.std.proofs.Common.{◌≡◌, ◌≢◌, ℕ, zero, suc, ◌+◌, ◌-◌, ◌*◌, ◌%◌, ◌^◌, ◌<◌, ◌≤◌, refl, ◌∙◌, ap, sym, subst, arith, inl, inr, add-one}
-use Rattle.std.specs.Prelude.{◌⊎◌, Bool, true, false, if◌then◌else◌, nat_eq, nat_lt, nat_le, ◌&&◌, ◌||◌, List, [], ◌∷◌, ◌++◌, map, length}
+use Rattle.std.proofs.Common.{◌≡◌, ◌≢◌, ℕ, zero, suc, ◌+◌, ◌*◌, ◌<◌, ◌≤◌, refl, ◌∙◌, ap, subst, arith, inl, inr, add-one}
+use Rattle.std.specs.Prelude.{◌⊎◌, Bool, true, false, if◌then◌else◌, nat_lt, ◌∷◌, map}
 use Rattle.std.proofs.lemmas.Grind.{common_steps}
-use Rattle.sparc_store.specs.Words.{Words, word_at, with_word, HasWord, HasFrame, IsWithin}
+use Rattle.sparc_store.specs.Words.{Words, word_at, with_word, HasWord}
 use Rattle.sparc_store.specs.Windows.{kept}
 use Rattle.sparc_store.proofs.Placed.{others_stay, put_there}
 use Rattle.sparc_machine.specs.State.{MachineState}
-use Rattle.frame_walk.specs.Places.{Place, Register, Slot, Constant, Frame, shown, word_in_place, plain_descriptor, holder_offset, local_offset, pending_offset, slots_from, pending_places}
-use Rattle.plain_words.specs.Moves.{is_scratch, Moved, pended}
-use Rattle.plain_words.specs.Showing.{viewed, ChangedFrom, PendedShows, LeftShows}
+use Rattle.frame_walk.specs.Places.{shown, word_in_place, plain_descriptor, holder_offset, local_offset, pending_offset, slots_from, pending_places}
+use Rattle.plain_words.specs.Moves.{is_scratch, Moved}
+use Rattle.plain_words.specs.Showing.{viewed, PendedShows, LeftShows}
 use Rattle.plain_words.proofs.Placing.{placed}
 
 -- a window is as it was where its registers are

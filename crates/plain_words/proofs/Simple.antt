@@ -1,13 +1,13 @@
 -- Nodes whose words are straight code of known length.
-use Rattle.std.proofs.Common.{◌≡◌, ℕ, suc, ◌+◌, ◌*◌, ◌/◌, ◌%◌, ◌^◌, ◌<◌, ◌≤◌, refl, ◌∙◌, ap, sym, subst, arith}
-use Rattle.std.specs.Prelude.{bit_or, List, [], ◌∷◌, ◌++◌, length}
-use Rattle.sparc_store.specs.Words.{Words, with_word, HasFrame}
+use Rattle.std.proofs.Common.{ℕ, ◌+◌, ◌*◌, ◌/◌, ◌%◌, ◌^◌, ◌<◌, refl, ◌∙◌, ap, arith}
+use Rattle.std.specs.Prelude.{bit_or}
+use Rattle.sparc_store.specs.Words.{with_word}
 use Rattle.sparc_machine.specs.State.{MachineState}
 use Rattle.frame_walk.specs.Places.{pending_offset}
 use Rattle.plain_words.specs.Code.{constant_code, self_code, drop_code}
 use Rattle.plain_words.specs.Moves.{IsReady, Does, pended}
 use Rattle.plain_words.proofs.Placing.{placed, two_parts}
-use Rattle.plain_words.proofs.Polls.{polled, node_does}
+use Rattle.plain_words.proofs.Polls.{node_does}
 
 pub constant_does : (m : MachineState) (p words locals k word : ℕ) → IsReady m p words (constant_code locals k word) → 27 + locals + k < words → Does m p (constant_code locals k word) (pended m locals k word)
 constant_does m p words locals k word r room =

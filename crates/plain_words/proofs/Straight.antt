@@ -1,19 +1,18 @@
 -- Straight code: sums, loads and stores one after the other.
-use Rattle.std.proofs.Common.{◌≡◌, ◌≢◌, ℕ, zero, suc, ◌+◌, ◌*◌, ◌%◌, ◌^◌, ◌<◌, ◌≤◌, refl, ◌∙◌, ap, sym, subst, arith, inl, inr}
-use Rattle.std.specs.Prelude.{Option, Some, None, List, [], ◌∷◌, ◌++◌, length, Bool, true, false, not, nat_eq, ◌&&◌, ◌||◌, if◌then◌else◌}
+use Rattle.std.proofs.Common.{◌≡◌, ℕ, suc, ◌+◌, ◌*◌, ◌%◌, ◌^◌, ◌≤◌, refl, ◌∙◌, ap, arith}
+use Rattle.std.specs.Prelude.{Some, None, List, [], ◌∷◌, ◌++◌, length, Bool, true, false, not, nat_eq, ◌&&◌, ◌||◌, if◌then◌else◌}
 use Rattle.std.proofs.lemmas.Bool.{eqb-true}
 use Rattle.sparc_insn.specs.declared.insn.Insn.{Insn}
-use Rattle.sparc_insn.specs.declared.insn.Insn.TheVariants.{Sethi, Branch, Three, Trap}
+use Rattle.sparc_insn.specs.declared.insn.Insn.TheVariants.{Sethi, Three, Trap}
 use Rattle.sparc_insn.specs.declared.insn.Operand.{Operand}
 use Rattle.sparc_insn.specs.declared.insn.Op3.{Op3}
 use Rattle.sparc_insn.specs.declared.insn.Op3.TheVariants as ops
-use Rattle.sparc_insn.specs.Instructions.{instruction}
-use Rattle.sparc_store.specs.Words.{Words, word_at, with_word, HasWord}
+use Rattle.sparc_store.specs.Words.{HasWord}
 use Rattle.sparc_machine.specs.State.{MachineState, with_reg}
 use Rattle.sparc_machine.specs.Alu.{add}
 use Rattle.sparc_machine.specs.Table.{effect, operand, CanDo}
 use Rattle.sparc_machine.specs.Running.{trap_of}
-use Rattle.plain_words.specs.Going.{Stepped, Goes, At, Stands, StandsAt, IsCodeFrom}
+use Rattle.plain_words.specs.Going.{Goes, At, StandsAt, IsCodeFrom}
 use Rattle.plain_words.specs.Moves.{is_scratch}
 use Rattle.plain_words.proofs.Basics.{goes_none, goes_on, on, stepped, code_behind, at_stored, other_register, stands_as}
 

@@ -1,11 +1,13 @@
 -- The words of plain code: for each node of a body a poll, and then what the node does.
 --
 -- %g2 counts the source steps since the last service, and the first word of the control region has what was left of the goal then.
--- %g4 counts the activations of the activity. %g1, %g5, %g7 and the outs hold nothing at a poll.
-use Rattle.std.specs.Prelude.{ℕ, zero, suc, ◌+◌, ◌-◌, ◌*◌, ◌/◌, ◌%◌, Bool, true, false, if◌then◌else◌, List, [], ◌∷◌, ◌++◌, ℤ, pos, negsuc}
+-- %g4 counts the activations of the activity. %g1, %g5, %g7 and the outs but %sp hold nothing at a poll.
+use Rattle.std.specs.Prelude.{ℕ, zero, suc, ◌+◌, ◌-◌, ◌*◌, ◌/◌, ◌%◌, Bool, true, false, ◌&&◌, ◌||◌, nat_eq, if◌then◌else◌, List, [], ◌∷◌, ◌++◌, pos, negsuc}
+use Rattle.self_terms.specs.declared.names.TheConstants.{INT_ADD, INT_SUB}
 use Rattle.sparc_insn.specs.declared.insn.Insn.{Insn}
 use Rattle.sparc_insn.specs.declared.insn.Insn.TheVariants.{Sethi, Branch, Three, Trap}
 use Rattle.sparc_insn.specs.declared.insn.Operand.TheVariants.{Reg, Imm}
+use Rattle.sparc_insn.specs.declared.insn.Op3.{Op3}
 use Rattle.sparc_insn.specs.declared.insn.Op3.TheVariants as ops
 use Rattle.frame_walk.specs.Places.{holder_offset, local_offset, pending_offset}
 
@@ -88,24 +90,49 @@ drop_code = count ∷ []
 
 -- Sends. The receiver goes to %o0 and the arguments to the outs from %o1 on; a service goes on at what the message finds; the answer comes back
 -- in %o0 to the word behind the trap. A send is counted where its method is entered, or by the service.
+
+-- so many values, the first of which is number k, to registers from one on
 abbrev pub arguments_code : ℕ → ℕ → ℕ → ℕ → List Insn
 arguments_code to locals k zero = []
 arguments_code to locals k (suc n) = take to locals k ∷ arguments_code (to + 1) locals (k + 1) n
 
--- a message to a stated receiver, number k of the pending values, and to the activation's own, with the first argument as number k
-abbrev pub send_code : ℕ → ℕ → ℕ → List Insn
-send_code locals k args = (take 8 locals k ∷ arguments_code 9 locals (k + 1) args) ++ (Trap 1 ∷ [])
+-- a receiver and so many values behind it: the activation's own one, with value number k as the first, or a stated one, which is number k
+abbrev pub handed_code : Bool → ℕ → ℕ → ℕ → List Insn
+handed_code true locals k n = move 8 24 ∷ arguments_code 9 locals k n
+handed_code false locals k n = take 8 locals k ∷ arguments_code 9 locals (k + 1) n
 
-abbrev pub implied_code : ℕ → ℕ → ℕ → List Insn
-implied_code locals k args = (move 8 24 ∷ arguments_code 9 locals k args) ++ (Trap 1 ∷ [])
+-- a message to a stated receiver, and to the activation's own, by a service of this number
+abbrev pub send_code : ℕ → ℕ → ℕ → ℕ → List Insn
+send_code service locals k args = handed_code false locals k args ++ (Trap service ∷ [])
+
+abbrev pub implied_code : ℕ → ℕ → ℕ → ℕ → List Insn
+implied_code service locals k args = handed_code true locals k args ++ (Trap service ∷ [])
 
 -- the answer is pended
 abbrev pub answered_code : ℕ → ℕ → List Insn
 answered_code locals k = pend 8 locals k ∷ []
 
--- A primitive is a service, but for sums and differences of integers that don't overflow. Its answer comes back in %o0.
-abbrev pub primitive_code : ℕ → ℕ → List Insn
-primitive_code locals k = Trap 3 ∷ count ∷ pend 8 locals k ∷ []
+-- Primitives. A service does them, which counts the step, with the handler, where there is one, behind the arguments; but for sums and
+-- differences of integers that don't overflow.
+abbrev pub is_sum : ℕ → ℕ → Bool
+is_sum name args = nat_eq args 1 && (nat_eq name INT_ADD.0 || nat_eq name INT_SUB.0)
+
+-- a tagged sum, or a tagged difference
+abbrev pub sum_op : Bool → Op3
+sum_op false = ops.TaddCc
+sum_op true = ops.TsubCc
+
+-- the sum of %o0 and %o1 goes to %o0, behind the trap, and is counted; where it overflows, or a word has a tag, both stay, and the service is asked for
+abbrev pub summed_code : Bool → List Insn
+summed_code less = Three (sum_op less) 1 8 (Reg 9) ∷ Branch false 7 (pos 5) ∷ nop ∷ move 8 1 ∷ Branch false 8 (pos 3) ∷ count ∷ Trap 3 ∷ []
+
+abbrev pub sum_code : Bool → Bool → ℕ → ℕ → ℕ → List Insn
+sum_code less implied locals k n = handed_code implied locals k n ++ summed_code less
+
+-- a primitive with so many arguments, which with the handler are n values
+abbrev pub primitive_code : ℕ → ℕ → Bool → ℕ → ℕ → ℕ → List Insn
+primitive_code name args implied locals k n =
+    if is_sum name args then sum_code (nat_eq name INT_SUB.0) implied locals k n else (handed_code implied locals k n ++ (Trap 3 ∷ []))
 
 -- Answers. The value goes to the caller's %o0. A context's mark, its third word, is 0 from now on.
 abbrev pub ended_context : Bool → List Insn

@@ -1,10 +1,10 @@
 -- What the words of a node do, wherever they stand.
-use Rattle.std.specs.Prelude.{◌≡◌, ℕ, zero, suc, ◌+◌, ◌*◌, ◌%◌, ◌^◌, ◌<◌, ◌≤◌, Bool, true, false, not, nat_eq, nat_lt, nat_le, ◌||◌, ◌&&◌, if◌then◌else◌, List, [], ◌∷◌, ◌++◌, length}
+use Rattle.std.specs.Prelude.{◌≡◌, ℕ, zero, suc, ◌+◌, ◌*◌, ◌%◌, ◌^◌, ◌<◌, ◌≤◌, Bool, true, false, nat_eq, nat_lt, nat_le, ◌||◌, ◌&&◌, if◌then◌else◌, List, [], ◌∷◌, ◌++◌, length}
 use Rattle.sparc_insn.specs.declared.insn.Insn.{Insn}
 use Rattle.sparc_store.specs.Words.{Words, word_at, with_word, HasFrame, IsWithin}
 use Rattle.sparc_store.specs.Windows.{IsPlace, frame_before, but_first, kept, with_room, but_spilled, CanSave}
 use Rattle.sparc_machine.specs.State.{MachineState, stack_of}
-use Rattle.sparc_machine.specs.Alu.{add, sub}
+use Rattle.sparc_machine.specs.Alu.{add, sub, sum_flags, difference_flags, tagged}
 use Rattle.plain_words.specs.Going.{Goes, IsTrap, At, StandsAt, IsCodeFrom}
 use Rattle.frame_walk.specs.Places.{holder_offset, local_offset, pending_offset}
 use Rattle.plain_words.specs.Code.{poll, base_of, offset_of, method_code}
@@ -32,6 +32,7 @@ pub record Moved (m to : MachineState) (p : ℕ) (memory : Words) (steps : ℕ) 
 -- the node is done in words: so many instructions lead to the next poll, with this memory and one more step counted
 pub record Does (m : MachineState) (p : ℕ) (code : List Insn) (memory : Words) : Type 0 where
   pub instructions : ℕ
+  pub few : instructions ≤ length (poll ++ code)
   pub to : MachineState
   pub goes : Goes instructions m to
   pub moved : Moved m to (p + 4 * length (poll ++ code)) memory ((m.regs 2 + 1) % 2 ^ 32)
@@ -81,12 +82,36 @@ AreArguments m to register locals k (suc n) = (to.regs register ≡ word_at m.me
 -- receiver stands in %o0, and arguments, the first of which is number k of the pending values, from %o1 on.
 pub record Asks (m : MachineState) (service at receiver locals k args : ℕ) : Type 0 where
   pub instructions : ℕ
+  pub few : instructions ≤ 16
   pub to : MachineState
   pub goes : Goes instructions m to
   pub trap : IsTrap service to
   pub moved : Moved m to at m.memory (m.regs 2)
   pub receiver_is : to.regs 8 ≡ receiver
   pub arguments : AreArguments m to 9 locals k args
+
+-- a receiver as it is handed over: the activation's own one, or a stated one, which is number k of the pending values; and the number of the
+-- first value behind it
+abbrev pub handed_receiver : MachineState → Bool → ℕ → ℕ → ℕ
+handed_receiver m true locals k = m.regs 24
+handed_receiver m false locals k = word_at m.memory (m.regs 14 + pending_offset locals k)
+
+abbrev pub first_handed : Bool → ℕ → ℕ
+first_handed true k = k
+first_handed false k = k + 1
+
+abbrev pub handed_argument : MachineState → Bool → ℕ → ℕ → ℕ
+handed_argument m implied locals k = word_at m.memory (m.regs 14 + pending_offset locals (first_handed implied k))
+
+-- the sum of two words, or their difference
+abbrev pub summed : Bool → ℕ → ℕ → ℕ
+summed false x y = add x y
+summed true x y = sub x y
+
+-- it isn't that of their integers: it overflows, or one of the words has a tag
+abbrev pub overflows : Bool → ℕ → ℕ → Bool
+overflows false x y = (tagged x y (sum_flags x y)).overflow
+overflows true x y = (tagged x y (difference_flags x y)).overflow
 
 -- the machine in the caller's frame, at the address behind the call: what is in view is the older frame, its %o0 is the answer, and one
 -- step more and one activation less are counted
@@ -106,6 +131,7 @@ pub record Returned (m to : MachineState) (memory : Words) (answer : ℕ) : Type
 -- the activation ends: so many instructions lead to the caller's frame
 pub record Ends (m : MachineState) (memory : Words) (answer : ℕ) : Type 0 where
   pub instructions : ℕ
+  pub few : instructions ≤ 16
   pub to : MachineState
   pub goes : Goes instructions m to
   pub returned : Returned m to memory answer
@@ -173,11 +199,13 @@ pub record Entered (m to : MachineState) (p place : ℕ) (memory : Words) : Type
   pub activations : to.regs 4 ≡ (m.regs 4 + 1) % 2 ^ 32
   pub cost : to.regs 3 ≡ m.regs 3
   pub top : to.regs 6 ≡ m.regs 6
+  pub register_0 : to.regs 0 ≡ 0
   pub older : to.older ≡ kept m.regs ∷ but_spilled m.older
 
 -- so many instructions lead into the method
 pub record Enters (m : MachineState) (p place : ℕ) (memory : Words) : Type 0 where
   pub instructions : ℕ
+  pub few : m.pc + 4 * instructions ≤ p
   pub to : MachineState
   pub goes : Goes instructions m to
   pub entered : Entered m to p place memory

@@ -1,9 +1,9 @@
 -- What the frame in view shows before and after a node.
-use Rattle.std.specs.Prelude.{◌≡◌, ◌⊎◌, ℕ, ◌+◌, ◌*◌, ◌<◌, ◌≤◌, List, [], ◌∷◌, ◌++◌, map, length, slice_set}
-use Rattle.sparc_store.specs.Words.{Words, word_at, with_word, HasFrame, IsWithin}
+use Rattle.std.specs.Prelude.{◌≡◌, ◌⊎◌, ℕ, ◌+◌, ◌*◌, ◌<◌, ◌≤◌, ◌∷◌}
+use Rattle.sparc_store.specs.Words.{Words, word_at, HasFrame, IsWithin}
 use Rattle.sparc_store.specs.Windows.{kept}
 use Rattle.sparc_machine.specs.State.{MachineState}
-use Rattle.frame_walk.specs.Places.{Frame, shown, plain_descriptor, pending_offset}
+use Rattle.frame_walk.specs.Places.{Frame, shown, plain_descriptor}
 use Rattle.plain_words.specs.Moves.{Moved, pended}
 
 -- the frame in view, of a body at a node, with so many locals in it and so many pending values

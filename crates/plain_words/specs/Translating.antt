@@ -1,5 +1,5 @@
 -- The bodies whose words fit their fields, and how long their words are.
-use Rattle.std.specs.Prelude.{◌≡◌, ℕ, ◌^◌, ◌<◌, ◌≤◌, List, length, Some, slice_get}
+use Rattle.std.specs.Prelude.{◌≡◌, ℕ, ◌+◌, ◌^◌, ◌<◌, ◌≤◌, List, length, Some, slice_get}
 use Rattle.self_terms.specs.declared.nodes.Node.{Node}
 use Rattle.self_terms.specs.declared.nodes.Node.TheVariants as nodes
 use Rattle.self_terms.specs.declared.bodies.Body.{Body}
@@ -7,11 +7,12 @@ use Rattle.self_terms.specs.declared.bodies.Local.{Local}
 use Rattle.self_terms.specs.declared.values.Datum.{Datum}
 use Rattle.self_terms.specs.declared.values.Datum.TheVariants as datum
 use Rattle.self_terms.specs.Words.{IsSmall}
-use Rattle.self_terms.specs.Depths.{depth}
+use Rattle.self_terms.specs.Depths.{depth, one_if}
 use Rattle.plain_words.specs.declared.references.References.{References}
 use Rattle.plain_words.specs.Units.{object_word}
 
--- An integer literal has 30 bits, a message at most five arguments, and a local stands at most so many bodies out.
+-- An integer literal has 30 bits, a message at most five arguments, a primitive at most so many with its handler, and a local stands at most
+-- so many bodies out.
 abbrev pub IsShort : ℕ → Node → Type 0
 IsShort out (nodes.Int i) = IsSmall i
 IsShort out (nodes.Read up slot) = (up ≤ out) × (slot < 256)
@@ -20,6 +21,7 @@ IsShort out (nodes.Send sel) = sel.args ≤ 5
 IsShort out (nodes.SelfSend sel) = sel.args ≤ 5
 IsShort out (nodes.Resend sel) = sel.args ≤ 5
 IsShort out (nodes.Directed parent sel) = sel.args ≤ 5
+IsShort out (nodes.Prim name args implied handler) = args + one_if handler ≤ 5
 IsShort out _ = Unit {0}
 
 abbrev pub AreShort : ℕ → List Node → Type 0

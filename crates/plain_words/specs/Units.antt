@@ -1,5 +1,5 @@
 -- The unit of a body: the words of its entry, and then those of its nodes in their order; and what each of its words says of the frame.
-use Rattle.std.specs.Prelude.{ℕ, zero, suc, ◌+◌, ◌-◌, ◌*◌, ◌/◌, nat_le, Bool, if◌then◌else◌, List, [], ◌∷◌, ◌++◌, length, map}
+use Rattle.std.specs.Prelude.{ℕ, zero, suc, ◌+◌, ◌-◌, ◌*◌, ◌/◌, nat_le, Bool, not, if◌then◌else◌, List, [], ◌∷◌, ◌++◌, length, map}
 use Rattle.std.specs.List.{list_any}
 use Rattle.self_terms.specs.declared.nodes.Node.{Node}
 use Rattle.self_terms.specs.declared.nodes.Node.TheVariants as nodes
@@ -7,14 +7,14 @@ use Rattle.self_terms.specs.declared.bodies.Body.{Body}
 use Rattle.self_terms.specs.declared.values.Datum.{Datum}
 use Rattle.self_terms.specs.declared.values.Datum.TheVariants as datum
 use Rattle.self_terms.specs.Words.{word_of}
-use Rattle.self_terms.specs.Depths.{taken, grown}
+use Rattle.self_terms.specs.Depths.{taken, grown, one_if}
 use Rattle.sparc_insn.specs.declared.insn.Insn.{Insn}
 use Rattle.sparc_insn.specs.declared.insn.Insn.TheVariants.{Branch, Trap}
 use Rattle.std.specs.Prelude.{negsuc, false, true, slice_index}
 use Rattle.plain_words.specs.declared.references.References.{References}
 use Rattle.plain_words.specs.declared.units.Point.{Point}
 use Rattle.frame_walk.specs.Places.{Descriptor, plain_descriptor}
-use Rattle.plain_words.specs.Code.{poll, count, constant_code, self_code, read_code, store_code, drop_code, send_code, implied_code, answered_code, return_code, non_local_code, method_code}
+use Rattle.plain_words.specs.Code.{poll, count, constant_code, self_code, read_code, store_code, drop_code, send_code, implied_code, answered_code, primitive_code, return_code, non_local_code, method_code}
 
 -- the reference to an object, by its number; 0 where there is none
 abbrev pub object_word : References → ℕ → ℕ
@@ -70,17 +70,19 @@ node_code r owns locals at nodes.SelfRef k = self_code locals k
 node_code r owns locals at nodes.Nil k = constant_code locals k r.nil
 node_code r owns locals at (nodes.Read up slot) k = read_code owns locals k up slot
 node_code r owns locals at (nodes.Store up slot) k = store_code owns locals (k - 1) up slot
-node_code r owns locals at (nodes.Send sel) k = send_code locals (k - (sel.args + 1)) sel.args ++ answered_code locals (k - (sel.args + 1))
-node_code r owns locals at (nodes.SelfSend sel) k = implied_code locals (k - sel.args) sel.args ++ answered_code locals (k - sel.args)
-node_code r owns locals at (nodes.Resend sel) k = implied_code locals (k - sel.args) sel.args ++ answered_code locals (k - sel.args)
-node_code r owns locals at (nodes.Directed parent sel) k = implied_code locals (k - sel.args) sel.args ++ answered_code locals (k - sel.args)
+node_code r owns locals at (nodes.Send sel) k = send_code 1 locals (k - (sel.args + 1)) sel.args ++ answered_code locals (k - (sel.args + 1))
+node_code r owns locals at (nodes.SelfSend sel) k = implied_code 1 locals (k - sel.args) sel.args ++ answered_code locals (k - sel.args)
+node_code r owns locals at (nodes.Resend sel) k = implied_code 1 locals (k - sel.args) sel.args ++ answered_code locals (k - sel.args)
+node_code r owns locals at (nodes.Directed parent sel) k = implied_code 1 locals (k - sel.args) sel.args ++ answered_code locals (k - sel.args)
 node_code r owns locals at nodes.Drop k = drop_code
 node_code r owns locals at nodes.Restart k = restart_code (at + length poll)
 node_code r owns locals at nodes.Return k = return_code owns locals (k - 1)
 node_code r owns locals at nodes.NonLocal k = non_local_code locals (k - 1)
 node_code r owns locals at nodes.End k = return_code owns locals (k - 1)
 node_code r owns locals at (nodes.BlockLit b) k = failing_code
-node_code r owns locals at (nodes.Prim name args implied handler) k = failing_code
+node_code r owns locals at (nodes.Prim name args implied handler) k =
+    let first = k - (args + one_if (not implied) + one_if handler) in
+    primitive_code name.0 args implied locals first (args + one_if handler) ++ answered_code locals first
 
 -- those of the nodes, the first of which stands so many words behind the first of all, over k pending values
 abbrev pub nodes_code : References → Bool → ℕ → ℕ → ℕ → List Node → List Insn
@@ -108,6 +110,7 @@ is_call (nodes.Send sel) = true
 is_call (nodes.SelfSend sel) = true
 is_call (nodes.Resend sel) = true
 is_call (nodes.Directed parent sel) = true
+is_call (nodes.Prim name args implied handler) = true
 is_call _ = false
 
 -- the points of so many words of a node over k pending values: behind its call it has taken its values

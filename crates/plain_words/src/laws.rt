@@ -1,12 +1,13 @@
 // What the words of each node do.
-ghost use Rattle.std.specs.Prelude.{List, length, ◌<◌, ◌≤◌, ℕ, ◌+◌, ◌*◌, Bool};
+ghost use Rattle.std.specs.Prelude.{◌≡◌, List, ◌++◌, true, false, length, ◌<◌, ◌≤◌, ℕ, ◌+◌, ◌*◌, ◌%◌, Bool, ℤ, ◌+ℤ◌, ◌-ℤ◌};
+ghost use Rattle.self_terms.specs.Words.{IsSmall, word_of};
 ghost use Rattle.sparc_store.specs.Words.{word_at};
 ghost use Rattle.sparc_machine.specs.State.{MachineState};
 ghost use Rattle.frame_walk.specs.Places.{pending_offset};
-ghost use Rattle.plain_words.specs.Code.{constant_code, self_code, drop_code, read_code, store_code, send_code, implied_code, non_local_code, return_code, method_code};
+ghost use Rattle.plain_words.specs.Code.{constant_code, self_code, drop_code, read_code, store_code, send_code, implied_code, answered_code, is_sum, sum_code, primitive_code, non_local_code, return_code, method_code};
 ghost use Rattle.plain_words.specs.Units.{unit_code};
 ghost use Rattle.plain_words.specs.Showing.{PendedShows, LeftShows};
-ghost use Rattle.plain_words.specs.Moves.{IsReady, Does, pended, HasLocal, local_address, assigned, Asks, Ends, CanReturn, HasContext, unmarked, CanEnter, Enters, entered_memory};
+ghost use Rattle.plain_words.specs.Moves.{IsReady, Does, pended, HasLocal, local_address, assigned, Asks, handed_receiver, first_handed, handed_argument, summed, overflows, Ends, CanReturn, HasContext, unmarked, CanEnter, Enters, entered_memory};
 
 /// The words of a constant pend it.
 pub fn constants_are_pended()
@@ -35,12 +36,33 @@ pub fn locals_are_stored()
 
 /// Those of a message to a stated receiver ask for service 1.
 pub fn messages_are_sent()
-    ensures { (m : MachineState) (p words locals k args : ℕ) → IsReady m p words (send_code locals k args) → args ≤ 5 → 28 + locals + k + args ≤ words → Asks m 1 (p + 24 + 4 * (1 + args)) (word_at m.memory (m.regs 14 + pending_offset locals k)) locals (k + 1) args }
+    ensures { (m : MachineState) (p words locals k args : ℕ) → IsReady m p words (send_code 1 locals k args) → args ≤ 5 → 28 + locals + k + args ≤ words → Asks m 1 (p + 24 + 4 * (1 + args)) (word_at m.memory (m.regs 14 + pending_offset locals k)) locals (k + 1) args }
 {}
 
 /// Those of a message without a receiver, of a resend and of a directed one ask for it with the activation's own.
 pub fn own_messages_are_sent()
-    ensures { (m : MachineState) (p words locals k args : ℕ) → IsReady m p words (implied_code locals k args) → args ≤ 5 → 27 + locals + k + args ≤ words → Asks m 1 (p + 24 + 4 * (1 + args)) (m.regs 24) locals k args }
+    ensures { (m : MachineState) (p words locals k args : ℕ) → IsReady m p words (implied_code 1 locals k args) → args ≤ 5 → 27 + locals + k + args ≤ words → Asks m 1 (p + 24 + 4 * (1 + args)) (m.regs 24) locals k args }
+{}
+
+/// Those of a primitive that is no sum ask for service 3 with its receiver, its arguments, and the handler, where there is one, behind them.
+pub fn primitives_are_asked()
+    ensures { (m : MachineState) (p words name args : ℕ) (implied : Bool) (locals k n : ℕ) → is_sum name args ≡ false → IsReady m p words (primitive_code name args implied locals k n) → n ≤ 5 → 27 + locals + first_handed implied k + n ≤ words → Asks m 3 (p + 24 + 4 * (1 + n)) (handed_receiver m implied locals k) locals (first_handed implied k) n }
+{}
+
+/// Those of a sum or a difference pend it, where both words are those of integers and it doesn't overflow; else they ask for service 3 likewise.
+pub fn sums_are_done()
+    ensures done { (m : MachineState) (p words : ℕ) (less implied : Bool) (locals k n : ℕ) → IsReady m p words (sum_code less implied locals k n ++ answered_code locals k) → 0 < n → n ≤ 5 → 27 + locals + first_handed implied k + n ≤ words → overflows less (handed_receiver m implied locals k) (handed_argument m implied locals k) ≡ false → Does m p (sum_code less implied locals k n ++ answered_code locals k) (pended m locals k (summed less (handed_receiver m implied locals k) (handed_argument m implied locals k))) }
+    ensures asked { (m : MachineState) (p words : ℕ) (less implied : Bool) (locals k n : ℕ) → IsReady m p words (sum_code less implied locals k n) → 0 < n → n ≤ 5 → 27 + locals + first_handed implied k + n ≤ words → overflows less (handed_receiver m implied locals k) (handed_argument m implied locals k) ≡ true → Asks m 3 (p + 24 + 4 * (7 + n)) (handed_receiver m implied locals k) locals (first_handed implied k) n }
+{}
+
+/// The sum of the words of two integers is the word of their sum, just where that has 30 bits; else it overflows. So is the difference. Words
+/// that don't overflow have no tag.
+pub fn words_are_summed()
+    ensures sum { (x y : ℤ) → IsSmall x → IsSmall y → IsSmall (x +ℤ y) → (overflows false (word_of x) (word_of y) ≡ false) × (summed false (word_of x) (word_of y) ≡ word_of (x +ℤ y)) }
+    ensures difference { (x y : ℤ) → IsSmall x → IsSmall y → IsSmall (x -ℤ y) → (overflows true (word_of x) (word_of y) ≡ false) × (summed true (word_of x) (word_of y) ≡ word_of (x -ℤ y)) }
+    ensures sum_fits { (x y : ℤ) → IsSmall x → IsSmall y → overflows false (word_of x) (word_of y) ≡ false → IsSmall (x +ℤ y) }
+    ensures untagged { (less : Bool) (x y : ℕ) → overflows less x y ≡ false → (x % 4 ≡ 0) × (y % 4 ≡ 0) }
+    ensures difference_fits { (x y : ℤ) → IsSmall x → IsSmall y → overflows true (word_of x) (word_of y) ≡ false → IsSmall (x -ℤ y) }
 {}
 
 /// Those of a return from a home method ask for service 4, with the answer in %o0.

@@ -18,5 +18,5 @@ mod units;
 pub use bounds::{frames_are_small, units_are_instructions, units_are_short};
 pub use emitting::put_code;
 pub use references::References;
-pub use translator::{frame_locals_of, frame_words_of, owns_context, unit_of};
+pub use translator::{entry_words_of, frame_locals_of, frame_words_of, owns_context, unit_of};
 pub use units::{Point, Unit};

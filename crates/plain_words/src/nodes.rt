@@ -1,14 +1,14 @@
 //! The words of each kind of node, behind those that there are.
 ghost use Rattle.std.specs.Prelude.{◌≡◌, ◌++◌, ◌+◌, ◌-◌, ◌*◌, ◌≤◌, ◌<◌, OnOk};
-ghost use Rattle.plain_words.specs.Code.{poll, set_word, constant_code, self_code, read_code, store_code, reach, walk, arguments_code, send_code, implied_code, answered_code, return_code, non_local_code, ended_context};
+ghost use Rattle.plain_words.specs.Code.{poll, set_word, constant_code, self_code, read_code, store_code, reach, walk, arguments_code, handed_code, send_code, implied_code, answered_code, is_sum, sum_op, summed_code, primitive_code, return_code, non_local_code, ended_context};
 ghost use Rattle.plain_words.specs.Units.{node_code, restart_code, failing_code};
 ghost use Rattle.plain_words.specs.Translating.{IsShort};
 
 use crate::instructions::{
-    base_of, copy, count, load, offset_of, pend, poll, store, take, with_number, with_register,
+    NOP, base_of, copy, count, load, offset_of, pend, poll, store, take, with_number, with_register,
 };
 use crate::references::References;
-use self_terms::{Node, OutOfMemory, word_of_int};
+use self_terms::{INT_ADD, INT_SUB, Name, Node, OutOfMemory, word_of_int};
 use sparc_insn::{Insn, Op3};
 
 // Instructions behind those that there are.
@@ -113,26 +113,122 @@ fn put_arguments(code: &mut Vec<Insn>, locals: u32, k: u32, args: u8) -> Result<
     Ok(())
 }
 
+// A receiver and so many values behind it: the activation's own one, or a stated one.
+fn put_handed(
+    code: &mut Vec<Insn>,
+    implied: bool,
+    locals: u32,
+    k: u32,
+    n: u8,
+) -> Result<(), OutOfMemory>
+    requires few { n ≤ 5 }
+    requires room { locals + k + 6 ≤ 512 }
+    ensures { OnOk result (code.new.items ≡ code.old.items ++ handed_code implied locals k n) }
+{
+    if implied {
+        put(code, &[copy(8, 24)])?;
+        return put_arguments(code, locals, k, n);
+    }
+    put(code, &[take(8, locals, k)])?;
+    put_arguments(code, locals, k + 1, n)
+}
+
 // A message to a stated receiver, number k of the pending values, and the answer in its place.
 fn put_send(code: &mut Vec<Insn>, locals: u32, k: u32, args: u8) -> Result<(), OutOfMemory>
     requires few { args ≤ 5 }
     requires room { locals + k + 6 ≤ 512 }
-    ensures { OnOk result (code.new.items ≡ code.old.items ++ (send_code locals k args ++ answered_code locals k)) }
+    ensures { OnOk result (code.new.items ≡ code.old.items ++ (send_code 1 locals k args ++ answered_code locals k)) }
 {
-    put(code, &[take(8, locals, k)])?;
-    put_arguments(code, locals, k + 1, args)?;
+    put_handed(code, false, locals, k, args)?;
     put(code, &[Insn::Trap { number: 1 }, pend(8, locals, k)])
 }
 
 // A message to the activation's own receiver, with the first argument as number k.
 fn put_implied(code: &mut Vec<Insn>, locals: u32, k: u32, args: u8) -> Result<(), OutOfMemory>
     requires few { args ≤ 5 }
-    requires room { locals + k + 5 ≤ 512 }
-    ensures { OnOk result (code.new.items ≡ code.old.items ++ (implied_code locals k args ++ answered_code locals k)) }
+    requires room { locals + k + 6 ≤ 512 }
+    ensures { OnOk result (code.new.items ≡ code.old.items ++ (implied_code 1 locals k args ++ answered_code locals k)) }
 {
-    put(code, &[copy(8, 24)])?;
-    put_arguments(code, locals, k, args)?;
+    put_handed(code, true, locals, k, args)?;
     put(code, &[Insn::Trap { number: 1 }, pend(8, locals, k)])
+}
+
+// Whether a primitive is a sum or a difference of integers.
+fn is_sum(name: Name, args: u8) -> bool
+    ensures { result ≡ is_sum name.0 args }
+{
+    args == 1 && (name == INT_ADD || name == INT_SUB)
+}
+
+fn sum_op(less: bool) -> Op3
+    ensures { result ≡ sum_op less }
+{
+    if less {
+        return Op3::TsubCc;
+    }
+    Op3::TaddCc
+}
+
+// The sum or the difference of %o0 and %o1 to %o0, or a service's answer.
+fn summed_code(less: bool) -> [Insn; 7]
+    ensures { result ≡ summed_code less }
+{
+    [
+        with_register(sum_op(less), 1, 8, 9),
+        Insn::Branch {
+            annul: false,
+            cond: 7,
+            disp: 5,
+        },
+        NOP,
+        copy(8, 1),
+        Insn::Branch {
+            annul: false,
+            cond: 8,
+            disp: 3,
+        },
+        count(),
+        Insn::Trap { number: 3 },
+    ]
+}
+
+// A primitive with so many arguments, which with its handler are n values, the first value as number k.
+fn put_primitive(
+    code: &mut Vec<Insn>,
+    name: Name,
+    args: u8,
+    implied: bool,
+    locals: u32,
+    k: u32,
+    n: u8,
+) -> Result<(), OutOfMemory>
+    requires few { n ≤ 5 }
+    requires room { locals + k + 6 ≤ 512 }
+    ensures { OnOk result (code.new.items ≡ code.old.items ++ primitive_code name.0 args implied locals k n) }
+{
+    put_handed(code, implied, locals, k, n)?;
+    if is_sum(name, args) {
+        return put(code, &summed_code(name == INT_SUB));
+    }
+    put(code, &[Insn::Trap { number: 3 }])
+}
+
+// And its answer in the place of what it takes.
+fn put_answered(
+    code: &mut Vec<Insn>,
+    name: Name,
+    args: u8,
+    implied: bool,
+    locals: u32,
+    k: u32,
+    n: u8,
+) -> Result<(), OutOfMemory>
+    requires few { n ≤ 5 }
+    requires room { locals + k + 6 ≤ 512 }
+    ensures { OnOk result (code.new.items ≡ code.old.items ++ (primitive_code name.0 args implied locals k n ++ answered_code locals k)) }
+{
+    put_primitive(code, name, args, implied, locals, k, n)?;
+    put(code, &[pend(8, locals, k)])
 }
 
 fn put_ended(code: &mut Vec<Insn>, owns: bool) -> Result<(), OutOfMemory>
@@ -230,7 +326,20 @@ fn put_bare(
         Node::NonLocal => put_non_local(code, locals, k.saturating_sub(1)),
         Node::End => put_return(code, owns, locals, k.saturating_sub(1)),
         Node::BlockLit(_) => put(code, &[Insn::Trap { number: 8 }]),
-        Node::Prim { .. } => put(code, &[Insn::Trap { number: 8 }]),
+        Node::Prim {
+            name,
+            args,
+            implied,
+            handler,
+        } => put_answered(
+            code,
+            name,
+            args,
+            implied,
+            locals,
+            k.saturating_sub(args as u32 + (!implied) as u32 + handler as u32),
+            args + handler as u8,
+        ),
     }
 }
 

@@ -35,8 +35,8 @@ impl References {
         }
     }
 
-    // The word of what a text says.
-    pub(crate) fn datum(&self, datum: Datum) -> u32
+    /// The word of what a text says.
+    pub fn datum(&self, datum: Datum) -> u32
         requires { IsSmallDatum datum }
         ensures { result ≡ datum_word self.now datum }
     {

@@ -2,6 +2,7 @@
 ghost use Rattle.std.specs.Prelude.{◌≡◌, ◌++◌, ◌+◌, ◌-◌, ◌*◌, ◌≤◌, ◌<◌, IfOk, OnOk, Some, ℕ, [], ◌∷◌, length, map, slice_get};
 ghost use Rattle.self_terms.specs.Depths.{taken, left_by, grown};
 ghost use Rattle.self_terms.specs.declared.bodies.Local.{Local};
+ghost use Rattle.plain_words.specs.declared.references.References.{References};
 ghost use Rattle.plain_words.specs.Code.{poll, frame_code, holder_code, kept_code, argument_stores, initial_stores};
 ghost use Rattle.plain_words.specs.Units.{owns_context, frame_locals, frame_words, deepest, larger, is_block_literal, initial_words, entry_code, unit_code, node_code, datum_word, unit_points, node_points, is_call, times};
 ghost use Rattle.plain_words.specs.Putting.{AreInsns};
@@ -115,6 +116,17 @@ pub fn frame_words_of(body: &Body) -> u32
     2 * ((29 + frame_locals_of(body) + deepest(body)) / 2)
 }
 
+/// How many words stand in the unit of a body before its first node.
+pub fn entry_words_of(body: &Body) -> u32
+    requires { CanTranslate body.now }
+    ensures value { (r : References) → result ≡ length (entry_code r body.now) }
+    ensures small { result ≤ 206 }
+{
+    let arguments = body.arguments.as_slice();
+    let locals = body.locals.as_slice();
+    9 + arguments.len() as u32 + 3 * locals.len() as u32
+}
+
 // The frame of so many words, and in it the method holder.
 fn put_frame(code: &mut Vec<Insn>, words: u32) -> Result<(), OutOfMemory>
     requires some { 0 < words }
@@ -213,7 +225,11 @@ fn is_call(node: Node) -> bool
 {
     matches!(
         node,
-        Node::Send(_) | Node::SelfSend(_) | Node::Resend(_) | Node::Directed { .. }
+        Node::Send(_)
+            | Node::SelfSend(_)
+            | Node::Resend(_)
+            | Node::Directed { .. }
+            | Node::Prim { .. }
     )
 }
 

@@ -27,3 +27,8 @@ pub mod Numbers
 pub mod Growth
 pub mod Loaded
 pub mod Whole
+pub mod Keeps
+pub mod Contents
+pub mod Shapes
+pub mod Sure
+pub mod Right

@@ -3,14 +3,14 @@ ghost use Rattle.std.specs.Prelude.{◌≡◌, ◌⊎◌, ◌<◌, ◌≤◌, �
 ghost use Rattle.sparc_store.specs.Words.{Framed, word_at};
 ghost use Rattle.world_build.specs.Wholeness.{IsWhole};
 ghost use Rattle.world_heap.specs.Built.{IsModest};
-ghost use Rattle.world_heap.specs.Heaps.{HasHeap, heap_of};
+ghost use Rattle.world_heap.specs.Heaps.{HasHeap, heap_of, places};
 ghost use Rattle.world_heap.specs.Images.{maps, words};
 ghost use Rattle.world_heap.specs.Stands.{Stands};
 
-use crate::layout::{HEAP, references};
+use crate::layout::{HEAP, places, references};
 use crate::words::{maps_of, words_of};
 use object_maps::{Heap, Maps};
-use self_terms::Word;
+use self_terms::{Row, Word};
 use sparc_store::Memory;
 use std::alloc::{AllocError, Global};
 use std::marker::Model;
@@ -80,6 +80,27 @@ impl WorldImage {
             top: HEAP + 4 * self.words.len() as u32,
             next: self.world.things().len() as u32,
         }
+    }
+
+    /// The references to the objects, by their numbers.
+    pub fn references(&self, alloc: Global) -> Result<Row<Word>, AllocError>
+        ensures { IfOk result (λ r. r ≡ (places self.now.world).objects) }
+    {
+        self.is_whole();
+        places(alloc, &self.world)
+    }
+
+    /// The world and its maps.
+    pub fn into_parts(self) -> (World, Maps)
+        ensures world { result.0 ≡ self.world }
+        ensures maps { result.1 ≡ self.maps }
+    {
+        let WorldImage {
+            world,
+            maps,
+            words: _,
+        } = self;
+        (world, maps)
     }
 
     /// The words of the objects, the first of which has the address 20000000 (hexadecimal).

@@ -3,8 +3,10 @@ ghost use Rattle.std.specs.Prelude.{◌≡◌, ◌+◌, ◌<◌, ◌≤◌, ◌^
 ghost use Rattle.world_heap.specs.Layout.{fields, span, span_of, reference};
 ghost use Rattle.world_heap.specs.Kinds.{behind};
 ghost use Rattle.world_heap.specs.Steps.{references_from};
+ghost use Rattle.world_heap.specs.Heaps.{places};
+ghost use Rattle.world_heap.specs.Built.{IsModest};
 
-use self_terms::Word;
+use self_terms::{Row, Word};
 use source_model::{Content, Slots, Thing};
 use std::alloc::{AllocError, Global};
 use world_build::World;
@@ -77,4 +79,17 @@ pub fn reference(world: &World, references: &[Word], object: u32) -> Word
         return references[at];
     }
     references[references.len() - 1]
+}
+
+// The references to the objects of a world, by their numbers.
+pub fn places(alloc: Global, world: &World) -> Result<Row<Word>, AllocError>
+    requires { IsModest world.now }
+    ensures { IfOk result (λ r. r ≡ (places world.now).objects) }
+{
+    let references = references(alloc, world.things())?;
+    let mut objects = Row::open(alloc);
+    for k in 0..world.things().len() {
+        objects.push(reference(world, references.as_slice(), k as u32))?;
+    }
+    Ok(objects)
 }

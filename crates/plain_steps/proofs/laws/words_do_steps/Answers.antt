@@ -3,6 +3,7 @@ use Rattle.plain_steps.proofs.Answering.{return_steps, end_steps}
 use Rattle.plain_steps.proofs.Reading.{read_steps}
 use Rattle.plain_steps.proofs.Restarting.{restart_steps}
 use Rattle.plain_steps.proofs.Storing.{store_steps}
+use Rattle.plain_steps.proofs.Summing.{sum_steps, difference_steps}
 use Rattle.plain_steps.proofs.laws.words_do_steps.Goals as goal
 
 pub returns-clause-int : goal.returns-clause-int
@@ -34,3 +35,9 @@ returns-clause-read c = read_steps
 
 pub returns-clause-store : goal.returns-clause-store
 returns-clause-store c = store_steps
+
+pub returns-clause-sum : goal.returns-clause-sum
+returns-clause-sum c = sum_steps
+
+pub returns-clause-difference : goal.returns-clause-difference
+returns-clause-difference c = difference_steps

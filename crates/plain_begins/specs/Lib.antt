@@ -1,0 +1,2 @@
+-- Activities that begin in plain code.
+pub mod Begins

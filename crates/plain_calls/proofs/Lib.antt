@@ -1,0 +1,11 @@
+pub mod Bounds
+pub mod Initials
+pub mod Free
+pub mod Called
+pub mod Saved
+pub mod Others
+pub mod Views
+pub mod Method
+pub mod Begun
+pub mod Asked
+pub mod Calling

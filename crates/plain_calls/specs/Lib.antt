@@ -1,0 +1,2 @@
+-- Methods that plain code calls.
+pub mod Calls

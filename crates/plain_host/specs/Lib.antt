@@ -1,0 +1,3 @@
+-- The host of plain code.
+pub mod Hosted
+pub mod Opened

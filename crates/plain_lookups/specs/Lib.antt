@@ -1,0 +1,3 @@
+-- Lookups over memory.
+pub mod Looking
+pub mod Telling

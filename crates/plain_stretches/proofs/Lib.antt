@@ -1,0 +1,9 @@
+pub mod Runs
+pub mod Polls
+pub mod Settled
+pub mod Closing
+pub mod Waiting
+pub mod Owned
+pub mod Nodes
+pub mod Joining
+pub mod Stretches

@@ -1,0 +1,132 @@
+-- From a node's poll: its step, or a trap.
+use Rattle.std.proofs.Common.{◌≡◌, ℕ, zero, suc, ◌+◌, ◌-◌, ◌*◌, ◌<◌, ◌≤◌, refl, arith}
+use Rattle.std.specs.Prelude.{Bool, Some}
+use Rattle.self_terms.specs.declared.names.Name.{Name}
+use Rattle.self_terms.specs.declared.nodes.Node.{Node}
+use Rattle.self_terms.specs.declared.nodes.Node.TheVariants as nodes
+use Rattle.self_terms.specs.declared.nodes.Selector.{Selector}
+use Rattle.self_terms.specs.Depths.{depth_from}
+use Rattle.sparc_machine.specs.State.{MachineState}
+use Rattle.source_model.specs.State.{State}
+use Rattle.source_model.specs.Soundness.{body_in}
+use Rattle.source_model.specs.Step.{step}
+use Rattle.raw_steps.specs.Stands.{Sense}
+use Rattle.plain_words.specs.Going.{Goes, IsTrap}
+use Rattle.plain_words.specs.Code.{poll}
+use Rattle.plain_words.specs.Translating.{IsShort}
+use Rattle.plain_words.specs.Units.{frame_locals, frame_words}
+use Rattle.plain_words.proofs.Basics.{at_front}
+use Rattle.plain_words.proofs.Sending.{non_local_asks}
+use Rattle.plain_runs.specs.Host.{Host}
+use Rattle.plain_runs.specs.Sound.{RunsAt}
+use Rattle.plain_runs.specs.Course.{CanGo, code_at}
+use Rattle.plain_runs.proofs.Ready.{there_at, ready_at}
+use Rattle.plain_steps.specs.Steps.{DoesStep, EndsActivity, Performs, InWords, ByService}
+use Rattle.plain_steps.proofs.Summing.{primitives_perform}
+use Rattle.plain_steps.proofs.Words.{self_steps, int_steps, string_steps, nil_steps, drop_steps, depth_is}
+use Rattle.plain_steps.proofs.Answering.{return_steps, end_steps}
+use Rattle.plain_steps.proofs.Reading.{read_steps}
+use Rattle.plain_steps.proofs.Restarting.{restart_steps}
+use Rattle.plain_steps.proofs.Storing.{store_steps}
+use Rattle.plain_steps.proofs.Ending.{last_return, last_end}
+use Rattle.plain_sends.specs.Sends.{selector_of}
+use Rattle.plain_sends.proofs.Sending.{nodes_send}
+use Rattle.plain_stretches.specs.Standing.{IsSound, IsOn, left_of}
+use Rattle.plain_stretches.specs.Stretches.{HasNoBlocks, IsBlockless, Halts, AtGoal, AtSend, AtEnd, AtLack}
+use Rattle.plain_stretches.proofs.Polls.{polls_stop}
+use Rattle.plain_stretches.proofs.Waiting.{polls_wait}
+use Rattle.plain_stretches.proofs.Owned.{IsOwn, own_node, blockless_units}
+
+-- from a poll to a trap, with no step between
+pub record Halted (z : Sense) (h : Host) (s : State) (on : IsOn z h s) : Type 0 where
+  pub instructions : ℕ
+  pub few : instructions ≤ 512
+  pub to : MachineState
+  pub goes : Goes instructions h.machine to
+  pub trap : ℕ
+  pub stands : IsTrap trap to
+  pub halts : Halts z h s on trap to
+
+-- what a node does: its step, or it asks for a service
+pub data Done (z : Sense) (h : Host) (s : State) (on : IsOn z h s) : Type 0 where
+  Steps : DoesStep z h s → Done z h s on
+  Asks : Halted z h s on → Done z h s on
+
+abbrev on_of : (z : Sense) (h : Host) (s : State) → IsSound z h s → (b n : ℕ) (node : Node) → RunsAt h b n node → IsOn z h s
+on_of z h s x b n node r = record { sound = x; body = b; number = n; node = node; at = r }
+
+sends : (z : Sense) (h : Host) (s : State) (x : IsSound z h s) → CanGo h → (b n : ℕ) (node : Node) (sel : Selector) → selector_of node ≡ Some sel → (r : RunsAt h b n node) → sel.args ≤ 5 → Done z h s (on_of z h s x b n node r)
+sends z h s x can b n node sel is r few =
+    let q = nodes_send z h s b n node sel is x.stands r can few in
+    Asks (record {
+      instructions = q.asks.instructions;
+      few = omega (arith, q.asks.few);
+      to = q.asks.to;
+      goes = q.asks.goes;
+      trap = 1;
+      stands = q.asks.trap;
+      halts = AtSend refl (record { can = can; selector = sel; is = is; sent = q; there = refl });
+    })
+
+ends : (z : Sense) (h : Host) (s : State) (on : IsOn z h s) → EndsActivity z h s → Done z h s on
+ends z h s on e = Asks (record { instructions = e.instructions; few = e.few; to = e.to; goes = e.goes; trap = 9; stands = e.trap; halts = AtEnd refl (record { ends = e; there = refl }) })
+
+-- an activation answers its caller, or the activity
+answers : (z : Sense) (h : Host) (s : State) (on : IsOn z h s) (older : ℕ) → ((o : ℕ) → older ≡ suc o → DoesStep z h s) → (older ≡ 0 → EndsActivity z h s) → Done z h s on
+answers z h s on zero step last = ends z h s on (last refl)
+answers z h s on (suc o) step last = Steps (step o refl)
+
+-- a primitive is done in words, or asks for its service
+performs : (z : Sense) (h : Host) (s : State) (x : IsSound z h s) (b n : ℕ) (name : Name) (args : ℕ) (implied handler : Bool) (r : RunsAt h b n (nodes.Prim name args implied handler)) → Performs z h s b n args implied handler
+    → Done z h s (on_of z h s x b n (nodes.Prim name args implied handler) r)
+performs z h s x b n name args implied handler r (InWords d) = Steps d
+performs z h s x b n name args implied handler r (ByService at a) =
+    Asks (record { instructions = a.instructions; few = omega (arith, a.few); to = a.to; goes = a.goes; trap = 3; stands = a.trap; halts = AtLack (record { service = refl; at = at; moved = a.moved }) })
+
+node_done : (z : Sense) (h : Host) (s : State) (x : IsSound z h s) → CanGo h → (b n : ℕ) (node : Node) (r : RunsAt h b n node) → HasNoBlocks (body_in h.bodies b) → IsOwn (frame_locals (body_in h.bodies b)) node → IsShort 64 node
+    → Done z h s (on_of z h s x b n node r)
+node_done z h s x can b n (nodes.Int i) r plain own short = Steps (int_steps i short z h s b n x.stands r can tt)
+node_done z h s x can b n (nodes.Str o) r plain own short = Steps (string_steps o z h s b n x.stands r can tt)
+node_done z h s x can b n (nodes.BlockLit k) r plain own short = absurd own
+node_done z h s x can b n nodes.SelfRef r plain own short = Steps (self_steps z h s b n x.stands r can tt)
+node_done z h s x can b n nodes.Nil r plain own short = Steps (nil_steps z h s b n x.stands r can tt)
+node_done z h s x can b n (nodes.Read zero slot) r plain own short = Steps (read_steps slot z h s b n x.stands r can plain.context own)
+node_done z h s x can b n (nodes.Read (suc up) slot) r plain own short = absurd own
+node_done z h s x can b n (nodes.Store zero slot) r plain own short = Steps (store_steps slot z h s b n x.stands r can plain.context own)
+node_done z h s x can b n (nodes.Store (suc up) slot) r plain own short = absurd own
+node_done z h s x can b n (nodes.Send sel) r plain own short = sends z h s x can b n (nodes.Send sel) sel refl r short
+node_done z h s x can b n (nodes.SelfSend sel) r plain own short = sends z h s x can b n (nodes.SelfSend sel) sel refl r short
+node_done z h s x can b n (nodes.Resend sel) r plain own short = sends z h s x can b n (nodes.Resend sel) sel refl r short
+node_done z h s x can b n (nodes.Directed parent sel) r plain own short = sends z h s x can b n (nodes.Directed parent sel) sel refl r short
+node_done z h s x can b n (nodes.Prim name args implied handler) r plain own short = performs z h s x b n name args implied handler r (primitives_perform name args implied handler z h s b n x.stands r can)
+node_done z h s x can b n nodes.Drop r plain own short = Steps (drop_steps z h s b n x.stands r can tt)
+node_done z h s x can b n nodes.Restart r plain own short = Steps (restart_steps z h s b n x.stands r can tt)
+node_done z h s x can b n nodes.Return r plain own short =
+    answers z h s (on_of z h s x b n nodes.Return r) r.view.older (λ o e. return_steps z h s b n o x.stands r can plain.context e) (λ e. last_return z h s b n x.stands r can plain.context e)
+node_done z h s x can b n nodes.NonLocal r plain own short =
+    let body = body_in h.bodies b in
+    let k = depth_from 0 body.nodes n in
+    let room = (can.runs b).room n in
+    let some = (can.runs b).takes n nodes.NonLocal r.node_is in
+    let a = non_local_asks h.machine h.machine.pc (frame_words body) (frame_locals body) (k - 1) (ready_at h b n nodes.NonLocal r can.left) (omega (arith, room, some, depth_is body.nodes n)) in
+    Asks (record { instructions = a.instructions; few = omega (arith, a.few); to = a.to; goes = a.goes; trap = 4; stands = a.trap; halts = AtLack (record { service = refl; at = h.machine.pc + 24 + 4 * (1 + 0); moved = a.moved }) })
+node_done z h s x can b n nodes.End r plain own short =
+    answers z h s (on_of z h s x b n nodes.End r) r.view.older (λ o e. end_steps z h s b n o x.stands r can plain.context e) (λ e. last_end z h s b n x.stands r can plain.context e)
+
+pub goal_done : (z : Sense) (h : Host) (s : State) (on : IsOn z h s) → left_of h ≡ 0 → Halted z h s on
+goal_done z h s on none =
+    let m = h.machine in
+    let r = on.at in
+    let t = there_at h on.body on.number on.node r.poll r.node_is in
+    let p = polls_stop m m.pc r.stands (record { aligned = t.1.aligned; from = t.1.from; to = omega (arith, t.1.to) }) (at_front m.memory m.pc poll (code_at h on.body on.number on.node) t.0) (omega (arith, none)) in
+    record { instructions = p.instructions; few = omega (arith, p.few); to = p.to; goes = p.goes; trap = 2; stands = p.trap; halts = AtGoal refl none (polls_wait z h s p.to on p.trap p.moved) }
+
+pub poll_done : (z : Sense) (h : Host) (s : State) (on : IsOn z h s) → IsBlockless h → 0 < left_of h → Done z h s on
+poll_done z h s on plain some =
+    let x = on.sound in
+    let b = on.body in
+    let u = on.at.poll.unit in
+    let is = on.at.node_is in
+    let can : CanGo h = record { hosted = x.hosted; runs = x.runs; current = x.current; left = omega (arith, some) } in
+    let body = blockless_units h plain b on.at.poll.at u in
+    node_done z h s x can b on.number on.node on.at body (own_node h.bodies b on.number on.node (plain.fit b (u.given, u.known)) body is) ((x.runs b).translates.short on.number on.node is)

@@ -1,0 +1,2 @@
+-- Units in memory.
+pub mod Putting

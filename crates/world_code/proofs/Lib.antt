@@ -1,0 +1,3 @@
+pub mod Limited
+pub mod Rooms
+pub mod Runnable

@@ -1,0 +1,2 @@
+-- The bodies of accepted worlds.
+pub mod Limited
