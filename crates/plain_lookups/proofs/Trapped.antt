@@ -98,7 +98,7 @@ stated_receiver sel z h s b n f r can few q =
     let room = (can.runs b).room n in
     let enough = (can.runs b).takes n node r.node_is in
     let dd = depth_is x.nodes n in
-    let a = send_asks m m.pc (frame_words x) locals k sel.args (front_ready m m.pc (frame_words x) (send_code locals k sel.args) (answered_code locals k) (ready_at h b n node r can.left)) few (omega (arith, room, enough, dd)) in
+    let a = send_asks m m.pc (frame_words x) locals k sel.args (front_ready m m.pc (frame_words x) (send_code 1 locals k sel.args) (answered_code locals k) (ready_at h b n node r can.left)) few (omega (arith, room, enough, dd)) in
     let many : length at.young.pending ≡ depth x.nodes n = values_long z.cells z.places at.young.pending v.pending at.first.pending ∙ pending_long m.memory (kept m.regs) (m.regs 14) locals (depth x.nodes n) in
     let sent = send_is (raw_of h) s z f.stands at.young at.older v callers sel at.at (omega (arith, many, enough)) in
     let word : get_or v.pending sel.args 0 ≡ q.asks.to.regs 8 =
@@ -110,7 +110,7 @@ stated_receiver sel z h s b n f r can few q =
 
 -- that of the activation's own
 pub own_receiver : (node : Node) (sel : Selector) → taken node ≡ sel.args
-    → ((r : References) (owns : Bool) (locals at k : ℕ) → node_code r owns locals at node k ≡ implied_code locals (k - sel.args) sel.args ++ answered_code locals (k - sel.args))
+    → ((r : References) (owns : Bool) (locals at k : ℕ) → node_code r owns locals at node k ≡ implied_code 1 locals (k - sel.args) sel.args ++ answered_code locals (k - sel.args))
     → (z : Sense) (h : Host) (s : State) (b n : ℕ) → StandsFor z h s → (r : RunsAt h b n node) → CanGo h → sel.args ≤ 5 → (q : IsSent z h s b n node sel r) → IsValue z.cells z.places q.sender.receiver (q.asks.to.regs 8)
 own_receiver node sel takes code z h s b n f r can few q =
     let m = h.machine in
@@ -119,12 +119,12 @@ own_receiver node sel takes code z h s b n f r can few q =
     let deep = depth_from 0 x.nodes n in
     let k = deep - sel.args in
     let at = at_node_of z h s b n node f r in
-    let code_is : code_at h b n node ≡ implied_code locals k sel.args ++ answered_code locals k = code h.references _ locals _ deep in
+    let code_is : code_at h b n node ≡ implied_code 1 locals k sel.args ++ answered_code locals k = code h.references _ locals _ deep in
     let ready = (let P : List Insn → Type 0 = IsReady m m.pc (frame_words x) in subst P code_is (ready_at h b n node r can.left)) in
     let room = (can.runs b).room n in
     let enough = (can.runs b).takes n node r.node_is in
     let dd = depth_is x.nodes n in
-    let a = implied_asks m m.pc (frame_words x) locals k sel.args (front_ready m m.pc (frame_words x) (implied_code locals k sel.args) (answered_code locals k) ready) few (omega (arith, room, enough, takes, dd)) in
+    let a = implied_asks m m.pc (frame_words x) locals k sel.args (front_ready m m.pc (frame_words x) (implied_code 1 locals k sel.args) (answered_code locals k) ready) few (omega (arith, room, enough, takes, dd)) in
     subst (λ (y : Activation). IsValue z.cells z.places y.receiver (q.asks.to.regs 8)) (same_young (slice_get s.activities s.current) at.young q.sender at.older q.older at.at.here q.is_at.here)
     (subst (λ (w : ℕ). IsValue z.cells z.places at.young.receiver w) (sym (asked_same m 1 _ _ _ _ _ _ _ _ _ _ a q.asks)) at.first.receiver)
 
