@@ -1,6 +1,6 @@
 -- Sums and differences of integers are done in words.
 use Rattle.std.proofs.Common.{◌≡◌, ℕ, zero, suc, ◌+◌, ◌-◌, ◌*◌, ◌≤◌, refl, ◌∙◌, ap, sym, subst, arith, inl, inr, length-append}
-use Rattle.std.specs.Prelude.{◌⊎◌, Bool, true, false, not, ◌&&◌, ◌||◌, nat_eq, List, [], ◌∷◌, ◌++◌, map, length, Option, Some, slice_get, unwrap_or, codes, ℤ, ◌+ℤ◌, ◌-ℤ◌}
+use Rattle.std.specs.Prelude.{◌⊎◌, if◌then◌else◌, pos, negsuc, Bool, true, false, not, ◌&&◌, ◌||◌, nat_eq, List, [], ◌∷◌, ◌++◌, map, length, Option, Some, slice_get, unwrap_or, codes, ℤ, ◌+ℤ◌, ◌-ℤ◌}
 use Rattle.self_terms.specs.declared.names.Name.{Name}
 use Rattle.self_terms.specs.declared.names.TheConstants.{INT_ADD, INT_SUB}
 use Rattle.self_terms.specs.declared.nodes.Node.TheVariants as nodes
@@ -12,12 +12,14 @@ use Rattle.sparc_insn.specs.declared.insn.Insn.{Insn}
 use Rattle.sparc_store.specs.Words.{Words, word_at}
 use Rattle.sparc_store.specs.Windows.{kept}
 use Rattle.sparc_machine.specs.State.{MachineState}
-use Rattle.source_model.specs.State.{Activation, Running, State}
+use Rattle.source_model.specs.State.{Activation, Activity, Running, State}
 use Rattle.source_model.specs.Soundness.{body_in}
 use Rattle.self_terms.specs.Names.{text_of}
 use Rattle.source_model.specs.Names.{text_named}
-use Rattle.source_model.specs.Primitives.{row_of}
+use Rattle.source_model.specs.Primitives.{is_small, row_of}
+use Rattle.source_model.specs.Sends.{Message}
 use Rattle.std.proofs.lemmas.Bool.{eqb-true}
+use Rattle.std.proofs.lemmas.Grind.{common_steps}
 use Rattle.source_model.specs.Step.{step}
 use Rattle.heap_cells.specs.Standing.{IsValue, AreValues}
 use Rattle.frame_walk.specs.Places.{Frame, word_in_place, pending_places, pending_offset}
@@ -40,8 +42,8 @@ use Rattle.plain_runs.specs.Units.{words_before}
 use Rattle.plain_runs.specs.Sound.{RunsAt, callers_of}
 use Rattle.plain_runs.specs.Course.{CanGo, code_at}
 use Rattle.plain_runs.proofs.Ready.{ready_at, replaced_follows}
-use Rattle.plain_steps.specs.Steps.{StandsFor, DoesStep, WordsDo, TakesIntegers, AreIntegers, Performs, InWords, ByService, WordsPerform, first_taken}
-use Rattle.plain_steps.proofs.Here.{at_node_of}
+use Rattle.plain_steps.specs.Steps.{StandsFor, DoesStep, WordsDo, TakesIntegers, AreIntegers, comes_to, is_summed, IsSummed, Performs, InWords, ByService, WordsPerform, first_taken}
+use Rattle.plain_steps.proofs.Here.{AtNode, at_node_of}
 use Rattle.plain_steps.proofs.Words.{depth_is, depth_more, room_of, meets_step}
 use Rattle.plain_steps.proofs.Reading.{values_long}
 
@@ -88,10 +90,36 @@ first_is : (implied : Bool) (k : ℕ) → first_handed implied k ≡ k + one_if 
 first_is true k = omega arith
 first_is false k = omega arith
 
+-- Whether it is a sum that comes to an integer, told of the current activity.
+abbrev summed_in : State → ℕ → ℕ → Bool → Bool → Option Activity → Bool
+summed_in s name args implied handler (Some (Running (a ∷ older))) = is_summed name args (asked args implied handler (here_of s a older))
+summed_in s name args implied handler _ = false
+
+summed_here : (z : Sense) (h : Host) (s : State) (b n : ℕ) (name : Name) (args : ℕ) (implied handler is : Bool) (r : RunsAt h b n (nodes.Prim name args implied handler)) → (at : AtNode z h s b n (nodes.Prim name args implied handler) r)
+    → is_summed name.0 args (asked args implied handler (here_of s at.young at.older)) ≡ is → IsSummed s name.0 args implied handler is
+summed_here z h s b n name args implied handler is r at known a older running = sym (ap (summed_in s name.0 args implied handler) (sym at.at.here ∙ running)) ∙ known
+
+comes_not : (less : Bool) (v : Value) (vs : List Value) → ((x y : ℤ) → v ≡ values.Int x → vs ≡ values.Int y ∷ [] → is_small (if less then x -ℤ y else x +ℤ y) ≡ false) → comes_to less v vs ≡ false
+comes_not less (values.Int x) (values.Int y ∷ []) f = f x y refl refl
+comes_not less _ _ f = refl
+
+never : (b : Bool) → (b ≡ true → ⊥) → b ≡ false
+never true f = absurd (f refl)
+never false f = refl
+
+small_true : (z : ℤ) → IsSmall z → is_small z ≡ true
+small_true (pos n) h = grind (arith, common_steps)
+small_true (negsuc n) h = grind (arith, common_steps)
+
+true_small : (z : ℤ) → is_small z ≡ true → IsSmall z
+true_small (pos n) h = grind (arith, common_steps)
+true_small (negsuc n) h = grind (arith, common_steps)
+
 module _ (less : Bool) (name : Name) (f : ℤ → ℤ → ℤ) (implied handler : Bool)
     (code : (r : References) (owns : Bool) (locals at k : ℕ) → node_code r owns locals at (nodes.Prim name 1 implied handler) k
     ≡ sum_code less implied locals (k - takes_of implied handler) (1 + one_if handler) ++ answered_code locals (k - takes_of implied handler))
     (ints : (x y : ℤ) → IsSmall x → IsSmall y → IsSmall (f x y) → (overflows less (word_of x) (word_of y) ≡ false) × (summed less (word_of x) (word_of y) ≡ word_of (f x y)))
+    (f_is : (x y : ℤ) → f x y ≡ (if less then x -ℤ y else x +ℤ y))
     (z : Sense) (h : Host) (s : State) (b n : ℕ) where
   -- what the raw step is, where both are integers
   abbrev RawSums : Type 0
@@ -144,11 +172,11 @@ module _ (less : Bool) (name : Name) (f : ℤ → ℤ → ℤ) (implied handler 
       meets_step z h s b (n + 1) next.0 _ stood follow raw2
 
   -- by what the sum of the words is
-  sums_perform : (stood : StandsFor z h s) (r : RunsAt h b n (nodes.Prim name 1 implied handler)) → CanGo h → RawSums
+  sums_perform : (stood : StandsFor z h s) (r : RunsAt h b n (nodes.Prim name 1 implied handler)) → CanGo h → RawSums → ((m : Message) → is_summed name.0 1 m ≡ comes_to less m.receiver m.arguments)
       → ((x y : ℤ) → IsSmall x → IsSmall y → overflows less (word_of x) (word_of y) ≡ false → IsSmall (f x y))
       → (over : Bool) → overflows less (handed_receiver h.machine implied (frame_locals (body_in h.bodies b)) (first_taken h b n 1 implied handler)) (handed_argument h.machine implied (frame_locals (body_in h.bodies b)) (first_taken h b n 1 implied handler)) ≡ over
-      → Performs z h s b n 1 implied handler
-  sums_perform stood r can raw fits false e =
+      → Performs z h s b n name 1 implied handler
+  sums_perform stood r can raw told fits false e =
       let m = h.machine in
       let x = body_in h.bodies b in
       let locals = frame_locals x in
@@ -177,21 +205,43 @@ module _ (less : Bool) (name : Name) (f : ℤ → ℤ → ℤ) (implied handler 
       let one_int = (let P : Value → Type 0 = λ y. IsValue z.cells z.places y receiver in subst P i.1 one) in
       let two_int = (let P : List Value → Type 0 = λ ys. AreValues z.cells z.places ys (argument ∷ []) in subst P j.1 two) in
       let flag : overflows less (word_of i.0) (word_of j.0) ≡ false = sym (ap (λ y. overflows less y argument) one_int.1 ∙ ap (overflows less (word_of i.0)) two_int.0.1) ∙ e in
-      InWords (summed_steps stood r can raw (record { x = i.0; y = j.0; receiver = i.1; argument = j.1; small = fits i.0 j.0 one_int.0 two_int.0.0 flag }))
-  sums_perform stood r can raw fits true e =
+      let small : is_small (if less then i.0 -ℤ j.0 else i.0 +ℤ j.0) ≡ true = sym (ap is_small (f_is i.0 j.0)) ∙ small_true (f i.0 j.0) (fits i.0 j.0 one_int.0 two_int.0.0 flag) in
+      let known : is_summed name.0 1 q ≡ true = told q ∙ ap (λ v. comes_to less v q.arguments) i.1 ∙ ap (comes_to less (values.Int i.0)) j.1 ∙ small in
+      InWords (summed_here z h s b n name 1 implied handler true r at known) (summed_steps stood r can raw (record { x = i.0; y = j.0; receiver = i.1; argument = j.1; small = fits i.0 j.0 one_int.0 two_int.0.0 flag }))
+  sums_perform stood r can raw told fits true e =
       let m = h.machine in
       let x = body_in h.bodies b in
       let locals = frame_locals x in
       let node = nodes.Prim name 1 implied handler in
       let k = depth_from 0 x.nodes n in
+      let deep = depth x.nodes n in
       let dd = depth_is x.nodes n in
       let t = takes_of implied handler in
       let first = k - t in
-      let enough : t ≤ depth x.nodes n = (can.runs b).takes n node r.node_is in
+      let enough : t ≤ deep = (can.runs b).takes n node r.node_is in
+      let at = at_node_of z h s b n node stood r in
+      let v = viewed m b n locals deep in
+      let callers = callers_of h r.view.older in
+      let many : length at.young.pending ≡ deep = values_long z.cells z.places at.young.pending v.pending at.first.pending ∙ pending_long m.memory (kept m.regs) (m.regs 14) locals deep in
+      let message = asked_is (raw_of h) s z stood.stands at.young at.older v callers 1 implied handler node at.at (omega (arith, enough, many)) in
+      let q = asked 1 implied handler (here_of s at.young at.older) in
+      let w = asked_words 1 implied handler v in
+      let hw = hands m b n locals implied handler first deep (omega (arith, enough, dd)) in
+      let receiver = handed_receiver m implied locals first in
+      let argument = handed_argument m implied locals first in
+      let over : (i j : ℤ) → q.receiver ≡ values.Int i → q.arguments ≡ values.Int j ∷ [] → is_small (if less then i -ℤ j else i +ℤ j) ≡ false = λ i j er ea. (
+        let one = (let P : Value → Type 0 = λ y. IsValue z.cells z.places y w.receiver in subst P er message.receiver) in
+        let others = (let P : List Value → Type 0 = λ ys. AreValues z.cells z.places ys w.arguments in subst P ea message.arguments) in
+        let two = (let P : List ℕ → Type 0 = λ ws. AreValues z.cells z.places (values.Int j ∷ []) ws in subst P hw.arguments others) in
+        let first_word : receiver ≡ word_of i = sym hw.receiver ∙ one.1 in
+        let flag : overflows less (word_of i) (word_of j) ≡ true = sym (ap (λ y. overflows less y argument) first_word ∙ ap (overflows less (word_of i)) two.0.1) ∙ e in
+        never (is_small (if less then i -ℤ j else i +ℤ j)) (λ yes. (let no : overflows less (word_of i) (word_of j) ≡ false = (ints i j one.0 two.0.0 (true_small (f i j) (ap is_small (f_is i j) ∙ yes))).0 in let both : true ≡ false = sym flag ∙ no in cc))
+      ) in
+      let known : is_summed name.0 1 q ≡ false = told q ∙ comes_not less q.receiver q.arguments over in
       let front = sum_code less implied locals first (1 + one_if handler) in
       let code_is : code_at h b n node ≡ front ++ answered_code locals first = code h.references (owns_context x) locals (words_before h.references (owns_context x) locals 0 0 x.nodes n) k in
       let ready = (let P : List Insn → Type 0 = IsReady m m.pc (frame_words x) in subst P code_is (ready_at h b n node r can.left)) in
-      ByService (m.pc + 24 + 4 * (7 + (1 + one_if handler)))
+      ByService (summed_here z h s b n name 1 implied handler false r at known) (m.pc + 24 + 4 * (7 + (1 + one_if handler)))
       (sum_asks m m.pc (frame_words x) less implied locals first (1 + one_if handler) (front_ready m m.pc (frame_words x) front (answered_code locals first) ready) (omega arith) (omega (arith, one_few handler)) (omega (arith, first_is implied first, room_of h b n can, enough, dd)) e)
 
 -- the row of a text
@@ -201,13 +251,13 @@ row_is o text e = ap (λ y. row_of (unwrap_or y []) 1) e
 pub sum_steps : (implied handler : Bool) → WordsDo (nodes.Prim INT_ADD 1 implied handler) (AreIntegers (λ x y. x +ℤ y) implied handler)
 sum_steps implied handler z h s b n stood r can holds =
     let at = at_node_of z h s b n (nodes.Prim INT_ADD 1 implied handler) stood r in
-    summed_steps false INT_ADD (λ x y. x +ℤ y) implied handler (λ q owns locals at k. refl) sum_is z h s b n stood r can
+    summed_steps false INT_ADD (λ x y. x +ℤ y) implied handler (λ q owns locals at k. refl) sum_is (λ x y. refl) z h s b n stood r can
     (λ a older g fs at i j e y small. sum_follows (raw_of h) s z stood.stands a older g fs INT_ADD implied handler at (row_is _ _ stood.sums.add) i j e y small) (holds at.young at.older at.at.here)
 
 pub difference_steps : (implied handler : Bool) → WordsDo (nodes.Prim INT_SUB 1 implied handler) (AreIntegers (λ x y. x -ℤ y) implied handler)
 difference_steps implied handler z h s b n stood r can holds =
     let at = at_node_of z h s b n (nodes.Prim INT_SUB 1 implied handler) stood r in
-    summed_steps true INT_SUB (λ x y. x -ℤ y) implied handler (λ q owns locals at k. refl) difference_is z h s b n stood r can
+    summed_steps true INT_SUB (λ x y. x -ℤ y) implied handler (λ q owns locals at k. refl) difference_is (λ x y. refl) z h s b n stood r can
     (λ a older g fs at i j e y small. difference_follows (raw_of h) s z stood.stands a older g fs INT_SUB implied handler at (row_is _ _ stood.sums.sub) i j e y small) (holds at.young at.older at.at.here)
 
 -- a primitive that is a sum or a difference, by its name
@@ -227,22 +277,22 @@ row_as s name other text e is = ap (λ x. row_of (text_named s.names x) 1) e ∙
 
 -- with one argument
 one_performs : (name : Name) (implied handler : Bool) (z : Sense) (h : Host) (s : State) (b n : ℕ) → StandsFor z h s → RunsAt h b n (nodes.Prim name 1 implied handler) → CanGo h → ((nat_eq name.0 INT_ADD.0 ≡ true) ⊎ (nat_eq name.0 INT_SUB.0 ≡ true))
-    → Performs z h s b n 1 implied handler
+    → Performs z h s b n name 1 implied handler
 one_performs name implied handler z h s b n stood r can (inl add) =
     let e = eqb-true name.0 INT_ADD.0 add in
-    sums_perform false name (λ x y. x +ℤ y) implied handler (λ q owns locals at k. code_as name.0 INT_ADD.0 implied handler locals (k - takes_of implied handler) e) sum_is z h s b n stood r can
-    (λ a older g fs at i j y q small. sum_follows (raw_of h) s z stood.stands a older g fs name implied handler at (row_as s name.0 INT_ADD.0 _ e stood.sums.add) i j y q small) sum_fits _ refl
+    sums_perform false name (λ x y. x +ℤ y) implied handler (λ q owns locals at k. code_as name.0 INT_ADD.0 implied handler locals (k - takes_of implied handler) e) sum_is (λ x y. refl) z h s b n stood r can
+    (λ a older g fs at i j y q small. sum_follows (raw_of h) s z stood.stands a older g fs name implied handler at (row_as s name.0 INT_ADD.0 _ e stood.sums.add) i j y q small) (λ m. ap (λ k. is_summed k 1 m) e) sum_fits _ refl
 one_performs name implied handler z h s b n stood r can (inr sub) =
     let e = eqb-true name.0 INT_SUB.0 sub in
-    sums_perform true name (λ x y. x -ℤ y) implied handler (λ q owns locals at k. code_as name.0 INT_SUB.0 implied handler locals (k - takes_of implied handler) e) difference_is z h s b n stood r can
-    (λ a older g fs at i j y q small. difference_follows (raw_of h) s z stood.stands a older g fs name implied handler at (row_as s name.0 INT_SUB.0 _ e stood.sums.sub) i j y q small) difference_fits _ refl
+    sums_perform true name (λ x y. x -ℤ y) implied handler (λ q owns locals at k. code_as name.0 INT_SUB.0 implied handler locals (k - takes_of implied handler) e) difference_is (λ x y. refl) z h s b n stood r can
+    (λ a older g fs at i j y q small. difference_follows (raw_of h) s z stood.stands a older g fs name implied handler at (row_as s name.0 INT_SUB.0 _ e stood.sums.sub) i j y q small) (λ m. ap (λ k. is_summed k 1 m) e) difference_fits _ refl
 
-by_sum : (sum : Bool) (name : Name) (args : ℕ) (implied handler : Bool) (z : Sense) (h : Host) (s : State) (b n : ℕ) → StandsFor z h s → RunsAt h b n (nodes.Prim name args implied handler) → CanGo h → is_sum name.0 args ≡ sum → Performs z h s b n args implied handler
+by_sum : (sum : Bool) (name : Name) (args : ℕ) (implied handler : Bool) (z : Sense) (h : Host) (s : State) (b n : ℕ) → StandsFor z h s → RunsAt h b n (nodes.Prim name args implied handler) → CanGo h → is_sum name.0 args ≡ sum → Performs z h s b n name args implied handler
 by_sum true name args implied handler z h s b n stood r can e =
     let q = both (nat_eq args 1) (nat_eq name.0 INT_ADD.0) (nat_eq name.0 INT_SUB.0) e in
     let one = eqb-true args 1 q.0 in
     let r1 = (let P : ℕ → Type 0 = λ k. RunsAt h b n (nodes.Prim name k implied handler) in subst P one r) in
-    (let P : ℕ → Type 0 = λ k. Performs z h s b n k implied handler in subst P (sym one) (one_performs name implied handler z h s b n stood r1 can q.1))
+    (let P : ℕ → Type 0 = λ k. Performs z h s b n name k implied handler in subst P (sym one) (one_performs name implied handler z h s b n stood r1 can q.1))
 by_sum false name args implied handler z h s b n stood r can e =
     let m = h.machine in
     let x = body_in h.bodies b in
@@ -251,7 +301,8 @@ by_sum false name args implied handler z h s b n stood r can e =
     let first = first_taken h b n args implied handler in
     let enough : args + one_if (not implied) + one_if handler ≤ depth x.nodes n = (can.runs b).takes n node r.node_is in
     let few : args + one_if handler ≤ 5 = (can.runs b).translates.short n node r.node_is in
-    ByService (m.pc + 24 + 4 * (1 + (args + one_if handler)))
+    let at = at_node_of z h s b n node stood r in
+    ByService (summed_here z h s b n name args implied handler false r at (ap (λ c. c && comes_to (nat_eq name.0 INT_SUB.0) (asked args implied handler (here_of s at.young at.older)).receiver (asked args implied handler (here_of s at.young at.older)).arguments) e)) (m.pc + 24 + 4 * (1 + (args + one_if handler)))
     (primitive_asks m m.pc (frame_words x) name.0 args implied locals first (args + one_if handler) e
     (front_ready m m.pc (frame_words x) (primitive_code name.0 args implied locals first (args + one_if handler)) (answered_code locals first) (ready_at h b n node r can.left)) few (omega (arith, first_is implied first, room_of h b n can, enough, depth_is x.nodes n)))
 

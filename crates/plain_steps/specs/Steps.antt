@@ -1,8 +1,9 @@
 -- The words of plain code do the source's step.
-use Rattle.std.specs.Prelude.{◌≡◌, ℕ, ℤ, suc, ◌+◌, ◌-◌, ◌<◌, ◌≤◌, Bool, false, not, codes, List, [], ◌∷◌, Some, slice_get}
+use Rattle.std.specs.Prelude.{◌≡◌, ℕ, ℤ, suc, ◌+◌, ◌-◌, ◌<◌, ◌≤◌, ◌+ℤ◌, ◌-ℤ◌, Bool, true, false, not, ◌&&◌, nat_eq, if◌then◌else◌, codes, List, [], ◌∷◌, Some, slice_get}
 use Rattle.self_terms.specs.declared.names.Name.{Name}
 use Rattle.self_terms.specs.declared.names.TheConstants.{INT_ADD, INT_SUB}
 use Rattle.self_terms.specs.Depths.{one_if, depth_from}
+use Rattle.self_terms.specs.declared.values.Value.{Value}
 use Rattle.self_terms.specs.declared.values.Value.TheVariants as values
 use Rattle.self_terms.specs.Names.{text_of}
 use Rattle.self_terms.specs.Words.{IsSmall}
@@ -11,13 +12,15 @@ use Rattle.self_terms.specs.declared.nodes.Node.TheVariants as nodes
 use Rattle.sparc_store.specs.Words.{word_at}
 use Rattle.sparc_machine.specs.State.{MachineState}
 use Rattle.source_model.specs.State.{Activation, Running, State}
-use Rattle.source_model.specs.Sends.{Here}
+use Rattle.source_model.specs.Primitives.{is_small}
+use Rattle.source_model.specs.Sends.{Here, Message}
 use Rattle.source_model.specs.Soundness.{body_in}
 use Rattle.source_model.specs.Step.{step}
 use Rattle.raw_steps.specs.Meeting.{HasCore}
 use Rattle.raw_steps.specs.Messages.{asked}
 use Rattle.raw_steps.specs.Sends.{here_of}
 use Rattle.raw_steps.specs.Stands.{Sense, Stands}
+use Rattle.plain_words.specs.Code.{is_sum}
 use Rattle.plain_words.specs.Going.{Goes, IsTrap}
 use Rattle.plain_words.specs.Moves.{Asks, handed_receiver, first_handed}
 use Rattle.plain_words.specs.Units.{owns_context, frame_locals}
@@ -88,13 +91,25 @@ AsksPrimitive h b n args implied handler at =
     let locals = frame_locals (body_in h.bodies b) in
     Asks h.machine 3 at (handed_receiver h.machine implied locals first) locals (first_handed implied first) (args + one_if handler)
 
+-- What the words of a primitive do themselves: a sum or a difference of two integers that comes to one.
+abbrev pub comes_to : Bool → Value → List Value → Bool
+comes_to less (values.Int x) (values.Int y ∷ []) = is_small (if less then x -ℤ y else x +ℤ y)
+comes_to less receiver arguments = false
+
+abbrev pub is_summed : ℕ → ℕ → Message → Bool
+is_summed name args m = is_sum name args && comes_to (nat_eq name INT_SUB.0) m.receiver m.arguments
+
+-- so it is of the message of a primitive that is the next node of the current activity, or so it isn't
+abbrev pub IsSummed : State → ℕ → ℕ → Bool → Bool → Bool → Type 0
+IsSummed s name args implied handler is = (a : Activation) (older : List Activation) → slice_get s.activities s.current ≡ Some (Running (a ∷ older)) → is_summed name args (asked args implied handler (here_of s a older)) ≡ is
+
 -- A primitive's words do the source's step, or they ask for service 3, with receiver, arguments and handler in place.
-pub data Performs (z : Sense) (h : Host) (s : State) (b n args : ℕ) (implied handler : Bool) : Type 0 where
-  InWords : DoesStep z h s → Performs z h s b n args implied handler
-  ByService : (at : ℕ) → AsksPrimitive h b n args implied handler at → Performs z h s b n args implied handler
+pub data Performs (z : Sense) (h : Host) (s : State) (b n : ℕ) (name : Name) (args : ℕ) (implied handler : Bool) : Type 0 where
+  InWords : IsSummed s name.0 args implied handler true → DoesStep z h s → Performs z h s b n name args implied handler
+  ByService : IsSummed s name.0 args implied handler false → (at : ℕ) → AsksPrimitive h b n args implied handler at → Performs z h s b n name args implied handler
 
 abbrev pub WordsPerform : Type 0
-WordsPerform = (name : Name) (args : ℕ) (implied handler : Bool) (z : Sense) (h : Host) (s : State) (b n : ℕ) → StandsFor z h s → RunsAt h b n (nodes.Prim name args implied handler) → CanGo h → Performs z h s b n args implied handler
+WordsPerform = (name : Name) (args : ℕ) (implied handler : Bool) (z : Sense) (h : Host) (s : State) (b n : ℕ) → StandsFor z h s → RunsAt h b n (nodes.Prim name args implied handler) → CanGo h → Performs z h s b n name args implied handler
 
 -- a node that ends an activation, which has no context and isn't the oldest of its activity
 abbrev pub WordsAnswer : Node → Type 0

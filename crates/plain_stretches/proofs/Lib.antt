@@ -4,6 +4,7 @@ pub mod Settled
 pub mod Closing
 pub mod Waiting
 pub mod Owned
+pub mod Gated
 pub mod Nodes
 pub mod Joining
 pub mod Stretches

@@ -1,15 +1,16 @@
 -- From a node's poll: its step, or a trap.
 use Rattle.std.proofs.Common.{◌≡◌, ℕ, zero, suc, ◌+◌, ◌-◌, ◌*◌, ◌<◌, ◌≤◌, refl, arith}
-use Rattle.std.specs.Prelude.{Bool, Some}
+use Rattle.std.specs.Prelude.{Bool, true, false, Some}
 use Rattle.self_terms.specs.declared.names.Name.{Name}
 use Rattle.self_terms.specs.declared.nodes.Node.{Node}
 use Rattle.self_terms.specs.declared.nodes.Node.TheVariants as nodes
 use Rattle.self_terms.specs.declared.nodes.Selector.{Selector}
 use Rattle.self_terms.specs.Depths.{depth_from}
 use Rattle.sparc_machine.specs.State.{MachineState}
-use Rattle.source_model.specs.State.{State}
+use Rattle.source_model.specs.State.{Activation, State}
 use Rattle.source_model.specs.Soundness.{body_in}
 use Rattle.source_model.specs.Step.{step}
+use Rattle.raw_steps.specs.Sends.{here_of}
 use Rattle.raw_steps.specs.Stands.{Sense}
 use Rattle.plain_words.specs.Going.{Goes, IsTrap}
 use Rattle.plain_words.specs.Code.{poll}
@@ -23,6 +24,7 @@ use Rattle.plain_runs.specs.Course.{CanGo, code_at}
 use Rattle.plain_runs.proofs.Ready.{there_at, ready_at}
 use Rattle.plain_steps.specs.Steps.{DoesStep, EndsActivity, Performs, InWords, ByService}
 use Rattle.plain_steps.proofs.Summing.{primitives_perform}
+use Rattle.plain_steps.proofs.Here.{AtNode, at_node_of}
 use Rattle.plain_steps.proofs.Words.{self_steps, int_steps, string_steps, nil_steps, drop_steps, depth_is}
 use Rattle.plain_steps.proofs.Answering.{return_steps, end_steps}
 use Rattle.plain_steps.proofs.Reading.{read_steps}
@@ -31,8 +33,10 @@ use Rattle.plain_steps.proofs.Storing.{store_steps}
 use Rattle.plain_steps.proofs.Ending.{last_return, last_end}
 use Rattle.plain_sends.specs.Sends.{selector_of}
 use Rattle.plain_sends.proofs.Sending.{nodes_send}
+use Rattle.plain_stretches.specs.Gate.{is_built, gated_step}
 use Rattle.plain_stretches.specs.Standing.{IsSound, IsOn, left_of}
 use Rattle.plain_stretches.specs.Stretches.{HasNoBlocks, IsBlockless, Halts, AtGoal, AtSend, AtEnd, AtLack}
+use Rattle.plain_stretches.proofs.Gated.{gate_is, built_step}
 use Rattle.plain_stretches.proofs.Polls.{polls_stop}
 use Rattle.plain_stretches.proofs.Waiting.{polls_wait}
 use Rattle.plain_stretches.proofs.Owned.{IsOwn, own_node, blockless_units}
@@ -49,11 +53,15 @@ pub record Halted (z : Sense) (h : Host) (s : State) (on : IsOn z h s) : Type 0 
 
 -- what a node does: its step, or it asks for a service
 pub data Done (z : Sense) (h : Host) (s : State) (on : IsOn z h s) : Type 0 where
-  Steps : DoesStep z h s → Done z h s on
+  Steps : gated_step s ≡ step s → DoesStep z h s → Done z h s on
   Asks : Halted z h s on → Done z h s on
 
 abbrev on_of : (z : Sense) (h : Host) (s : State) → IsSound z h s → (b n : ℕ) (node : Node) → RunsAt h b n node → IsOn z h s
 on_of z h s x b n node r = record { sound = x; body = b; number = n; node = node; at = r }
+
+-- a node that is built
+simply : (z : Sense) (h : Host) (s : State) (x : IsSound z h s) (b n : ℕ) (node : Node) (r : RunsAt h b n node) → (let at = at_node_of z h s b n node x.stands r in is_built (here_of s at.young at.older) node ≡ true) → gated_step s ≡ step s
+simply z h s x b n node r e = built_step z h s b n node r (at_node_of z h s b n node x.stands r) e
 
 sends : (z : Sense) (h : Host) (s : State) (x : IsSound z h s) → CanGo h → (b n : ℕ) (node : Node) (sel : Selector) → selector_of node ≡ Some sel → (r : RunsAt h b n node) → sel.args ≤ 5 → Done z h s (on_of z h s x b n node r)
 sends z h s x can b n node sel is r few =
@@ -72,46 +80,69 @@ ends : (z : Sense) (h : Host) (s : State) (on : IsOn z h s) → EndsActivity z h
 ends z h s on e = Asks (record { instructions = e.instructions; few = e.few; to = e.to; goes = e.goes; trap = 9; stands = e.trap; halts = AtEnd refl (record { ends = e; there = refl }) })
 
 -- an activation answers its caller, or the activity
-answers : (z : Sense) (h : Host) (s : State) (on : IsOn z h s) (older : ℕ) → ((o : ℕ) → older ≡ suc o → DoesStep z h s) → (older ≡ 0 → EndsActivity z h s) → Done z h s on
-answers z h s on zero step last = ends z h s on (last refl)
-answers z h s on (suc o) step last = Steps (step o refl)
+answers : (z : Sense) (h : Host) (s : State) (on : IsOn z h s) → gated_step s ≡ step s → (older : ℕ) → ((o : ℕ) → older ≡ suc o → DoesStep z h s) → (older ≡ 0 → EndsActivity z h s) → Done z h s on
+answers z h s on built zero step last = ends z h s on (last refl)
+answers z h s on built (suc o) step last = Steps built (step o refl)
 
 -- a primitive is done in words, or asks for its service
-performs : (z : Sense) (h : Host) (s : State) (x : IsSound z h s) (b n : ℕ) (name : Name) (args : ℕ) (implied handler : Bool) (r : RunsAt h b n (nodes.Prim name args implied handler)) → Performs z h s b n args implied handler
+performs : (z : Sense) (h : Host) (s : State) (x : IsSound z h s) → CanGo h → (b n : ℕ) (name : Name) (args : ℕ) (implied handler : Bool) (r : RunsAt h b n (nodes.Prim name args implied handler)) → Performs z h s b n name args implied handler
     → Done z h s (on_of z h s x b n (nodes.Prim name args implied handler) r)
-performs z h s x b n name args implied handler r (InWords d) = Steps d
-performs z h s x b n name args implied handler r (ByService at a) =
-    Asks (record { instructions = a.instructions; few = omega (arith, a.few); to = a.to; goes = a.goes; trap = 3; stands = a.trap; halts = AtLack (record { service = refl; at = at; moved = a.moved }) })
+performs z h s x can b n name args implied handler r (InWords summed d) =
+    let node = nodes.Prim name args implied handler in
+    let at = at_node_of z h s b n node x.stands r in
+    Steps (simply z h s x b n node r (summed at.young at.older at.at.here)) d
+performs z h s x can b n name args implied handler r (ByService unsummed at a) =
+    let node = nodes.Prim name args implied handler in
+    let y = at_node_of z h s b n node x.stands r in
+    Asks (record {
+      instructions = a.instructions;
+      few = omega (arith, a.few);
+      to = a.to;
+      goes = a.goes;
+      trap = 3;
+      stands = a.trap;
+      halts = AtLack (record {
+        service = refl;
+        can = can;
+        sender = y.young;
+        older = y.older;
+        here = y.at.here;
+        unbuilt = gate_is s y.young y.older node false y.at.here y.at.node_is (unsummed y.young y.older y.at.here);
+        at = at;
+        moved = a.moved;
+      });
+    })
 
 node_done : (z : Sense) (h : Host) (s : State) (x : IsSound z h s) → CanGo h → (b n : ℕ) (node : Node) (r : RunsAt h b n node) → HasNoBlocks (body_in h.bodies b) → IsOwn (frame_locals (body_in h.bodies b)) node → IsShort 64 node
     → Done z h s (on_of z h s x b n node r)
-node_done z h s x can b n (nodes.Int i) r plain own short = Steps (int_steps i short z h s b n x.stands r can tt)
-node_done z h s x can b n (nodes.Str o) r plain own short = Steps (string_steps o z h s b n x.stands r can tt)
+node_done z h s x can b n (nodes.Int i) r plain own short = Steps (simply z h s x b n (nodes.Int i) r refl) (int_steps i short z h s b n x.stands r can tt)
+node_done z h s x can b n (nodes.Str o) r plain own short = Steps (simply z h s x b n (nodes.Str o) r refl) (string_steps o z h s b n x.stands r can tt)
 node_done z h s x can b n (nodes.BlockLit k) r plain own short = absurd own
-node_done z h s x can b n nodes.SelfRef r plain own short = Steps (self_steps z h s b n x.stands r can tt)
-node_done z h s x can b n nodes.Nil r plain own short = Steps (nil_steps z h s b n x.stands r can tt)
-node_done z h s x can b n (nodes.Read zero slot) r plain own short = Steps (read_steps slot z h s b n x.stands r can plain.context own)
+node_done z h s x can b n nodes.SelfRef r plain own short = Steps (simply z h s x b n nodes.SelfRef r refl) (self_steps z h s b n x.stands r can tt)
+node_done z h s x can b n nodes.Nil r plain own short = Steps (simply z h s x b n nodes.Nil r refl) (nil_steps z h s b n x.stands r can tt)
+node_done z h s x can b n (nodes.Read zero slot) r plain own short = Steps (simply z h s x b n (nodes.Read zero slot) r refl) (read_steps slot z h s b n x.stands r can plain.context own)
 node_done z h s x can b n (nodes.Read (suc up) slot) r plain own short = absurd own
-node_done z h s x can b n (nodes.Store zero slot) r plain own short = Steps (store_steps slot z h s b n x.stands r can plain.context own)
+node_done z h s x can b n (nodes.Store zero slot) r plain own short = Steps (simply z h s x b n (nodes.Store zero slot) r refl) (store_steps slot z h s b n x.stands r can plain.context own)
 node_done z h s x can b n (nodes.Store (suc up) slot) r plain own short = absurd own
 node_done z h s x can b n (nodes.Send sel) r plain own short = sends z h s x can b n (nodes.Send sel) sel refl r short
 node_done z h s x can b n (nodes.SelfSend sel) r plain own short = sends z h s x can b n (nodes.SelfSend sel) sel refl r short
 node_done z h s x can b n (nodes.Resend sel) r plain own short = sends z h s x can b n (nodes.Resend sel) sel refl r short
 node_done z h s x can b n (nodes.Directed parent sel) r plain own short = sends z h s x can b n (nodes.Directed parent sel) sel refl r short
-node_done z h s x can b n (nodes.Prim name args implied handler) r plain own short = performs z h s x b n name args implied handler r (primitives_perform name args implied handler z h s b n x.stands r can)
-node_done z h s x can b n nodes.Drop r plain own short = Steps (drop_steps z h s b n x.stands r can tt)
-node_done z h s x can b n nodes.Restart r plain own short = Steps (restart_steps z h s b n x.stands r can tt)
+node_done z h s x can b n (nodes.Prim name args implied handler) r plain own short = performs z h s x can b n name args implied handler r (primitives_perform name args implied handler z h s b n x.stands r can)
+node_done z h s x can b n nodes.Drop r plain own short = Steps (simply z h s x b n nodes.Drop r refl) (drop_steps z h s b n x.stands r can tt)
+node_done z h s x can b n nodes.Restart r plain own short = Steps (simply z h s x b n nodes.Restart r refl) (restart_steps z h s b n x.stands r can tt)
 node_done z h s x can b n nodes.Return r plain own short =
-    answers z h s (on_of z h s x b n nodes.Return r) r.view.older (λ o e. return_steps z h s b n o x.stands r can plain.context e) (λ e. last_return z h s b n x.stands r can plain.context e)
+    answers z h s (on_of z h s x b n nodes.Return r) (simply z h s x b n nodes.Return r refl) r.view.older (λ o e. return_steps z h s b n o x.stands r can plain.context e) (λ e. last_return z h s b n x.stands r can plain.context e)
 node_done z h s x can b n nodes.NonLocal r plain own short =
     let body = body_in h.bodies b in
     let k = depth_from 0 body.nodes n in
     let room = (can.runs b).room n in
     let some = (can.runs b).takes n nodes.NonLocal r.node_is in
+    let y = at_node_of z h s b n nodes.NonLocal x.stands r in
     let a = non_local_asks h.machine h.machine.pc (frame_words body) (frame_locals body) (k - 1) (ready_at h b n nodes.NonLocal r can.left) (omega (arith, room, some, depth_is body.nodes n)) in
-    Asks (record { instructions = a.instructions; few = omega (arith, a.few); to = a.to; goes = a.goes; trap = 4; stands = a.trap; halts = AtLack (record { service = refl; at = h.machine.pc + 24 + 4 * (1 + 0); moved = a.moved }) })
+    Asks (record { instructions = a.instructions; few = omega (arith, a.few); to = a.to; goes = a.goes; trap = 4; stands = a.trap; halts = AtLack (record { service = refl; can = can; sender = y.young; older = y.older; here = y.at.here; unbuilt = gate_is s y.young y.older nodes.NonLocal false y.at.here y.at.node_is refl; at = h.machine.pc + 24 + 4 * (1 + 0); moved = a.moved }) })
 node_done z h s x can b n nodes.End r plain own short =
-    answers z h s (on_of z h s x b n nodes.End r) r.view.older (λ o e. end_steps z h s b n o x.stands r can plain.context e) (λ e. last_end z h s b n x.stands r can plain.context e)
+    answers z h s (on_of z h s x b n nodes.End r) (simply z h s x b n nodes.End r refl) r.view.older (λ o e. end_steps z h s b n o x.stands r can plain.context e) (λ e. last_end z h s b n x.stands r can plain.context e)
 
 pub goal_done : (z : Sense) (h : Host) (s : State) (on : IsOn z h s) → left_of h ≡ 0 → Halted z h s on
 goal_done z h s on none =

@@ -2,4 +2,5 @@
 pub mod Runs
 pub mod Polls
 pub mod Standing
+pub mod Gate
 pub mod Stretches

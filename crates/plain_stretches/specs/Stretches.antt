@@ -1,14 +1,14 @@
 -- A stretch: how words go on to the next trap.
-use Rattle.std.specs.Prelude.{◌≡◌, ◌≢◌, ℕ, suc, ◌+◌, ◌-◌, ◌*◌, ◌^◌, ◌<◌, ◌≤◌, false, [], Option, Some, None, slice_get}
+use Rattle.std.specs.Prelude.{◌≡◌, ◌≢◌, ℕ, suc, ◌+◌, ◌-◌, ◌*◌, ◌^◌, ◌<◌, ◌≤◌, false, List, [], ◌∷◌, Option, Some, None, slice_get}
 use Rattle.self_terms.specs.declared.nodes.Node.{Node}
 use Rattle.self_terms.specs.declared.nodes.Node.TheVariants as nodes
 use Rattle.self_terms.specs.declared.nodes.Selector.{Selector}
 use Rattle.self_terms.specs.declared.bodies.Body.{Body}
 use Rattle.sparc_store.specs.Words.{word_at}
 use Rattle.sparc_machine.specs.State.{MachineState}
-use Rattle.source_model.specs.State.{State, Reached, silent}
+use Rattle.source_model.specs.State.{Activation, Running, State, Reached, silent}
 use Rattle.source_model.specs.Soundness.{body_in, HasBody, IsFit}
-use Rattle.source_model.specs.Step.{step, run}
+use Rattle.source_model.specs.Step.{step}
 use Rattle.raw_steps.specs.Stands.{Sense}
 use Rattle.plain_words.specs.Going.{Goes, IsTrap}
 use Rattle.plain_words.specs.Moves.{Moved}
@@ -20,6 +20,7 @@ use Rattle.plain_runs.specs.Sound.{RunsAt}
 use Rattle.plain_runs.specs.Course.{with_machine, CanGo, AllRun}
 use Rattle.plain_steps.specs.Steps.{StandsFor, DoesStep, EndsActivity}
 use Rattle.plain_sends.specs.Sends.{selector_of, met_of, IsSent, IsData}
+use Rattle.plain_stretches.specs.Gate.{not_built, gated_step, gated_run}
 use Rattle.plain_stretches.specs.Runs.{RunsTo}
 use Rattle.plain_stretches.specs.Standing.{IsOn, IsSet, Waits, left_of}
 
@@ -56,9 +57,14 @@ pub record Ends (z : Sense) (h : Host) (s : State) (to : MachineState) : Type 0 
   pub ends : EndsActivity z h s
   pub there : to ≡ ends.to
 
--- One of these has led to the service that it lacks; nothing has changed but scratch registers.
+-- One of these has led to the service that it lacks: it isn't built. Nothing has changed but scratch registers.
 pub record Lacks (z : Sense) (h : Host) (s : State) (on : IsOn z h s) (trap : ℕ) (to : MachineState) : Type 0 where
   pub service : lacking on.node ≡ Some trap
+  pub can : CanGo h
+  pub sender : Activation
+  pub older : List Activation
+  pub here : slice_get s.activities s.current ≡ Some (Running (sender ∷ older))
+  pub unbuilt : gated_step s ≡ silent (not_built s sender)
   pub at : ℕ
   pub moved : Moved h.machine to at h.machine.memory (h.machine.regs 2)
 
@@ -69,12 +75,12 @@ pub data Halts (z : Sense) (h : Host) (s : State) (on : IsOn z h s) (trap : ℕ)
   AtEnd : trap ≡ 9 → Ends z h s to → Halts z h s on trap to
   AtLack : Lacks z h s on trap to → Halts z h s on trap to
 
--- Where the goal is `left` steps away: so many of the source's steps, which print nothing, are done by words, and lead to the poll of a node, with
--- the rest left of the goal; and from there to a trap. A step takes at most 512 instructions.
+-- Where the goal is `left` steps away: so many of the source's steps, which are built and print nothing, are done by words, and lead to the poll of a
+-- node, with the rest left of the goal; and from there to a trap. A step takes at most 512 instructions.
 pub record Stretch (z : Sense) (h : Host) (s : State) (left : ℕ) : Type 0 where
   pub steps : ℕ
   pub state : State
-  pub runs : run steps (silent s) ≡ silent state
+  pub runs : gated_run steps (silent s) ≡ silent state
   pub counted : state.steps ≡ s.steps + steps
   pub last : MachineState
   pub sense : Sense
@@ -88,27 +94,32 @@ pub record Stretch (z : Sense) (h : Host) (s : State) (left : ℕ) : Type 0 wher
   pub stands : IsTrap trap to
   pub halts : Halts sense (with_machine h last) state on trap to
 
+-- One that does a step at least.
+pub record StretchOn (z : Sense) (h : Host) (s : State) (left : ℕ) : Type 0 where
+  pub stretch : Stretch z h s left
+  pub some : 0 < stretch.steps
+
 -- From each poll there is a stretch.
 abbrev pub PollsStretch : Type 0
 PollsStretch = (z : Sense) (h : Host) (s : State) (left : ℕ) → IsSet z h s left → IsBlockless h → Stretch z h s left
 
 -- So is there from behind a service whose words do a step, where one is left of the goal.
 abbrev pub StepsStretch : Type 0
-StepsStretch = (z : Sense) (h : Host) (s : State) (left : ℕ) → AllRun h → h.current < 4 → IsBlockless h → DoesStep z h s → h.steps + word_at h.machine.memory 0x30000000 ≡ s.steps + suc left → Stretch z h s (suc left)
+StepsStretch = (z : Sense) (h : Host) (s : State) (left : ℕ) → AllRun h → h.current < 4 → IsBlockless h → gated_step s ≡ step s → DoesStep z h s → h.steps + word_at h.machine.memory 0x30000000 ≡ s.steps + suc left → StretchOn z h s (suc left)
 
 -- So is there from behind a send that data answers; the new goal doesn't count its step.
 abbrev pub AnswersStretch : Type 0
 AnswersStretch = (z : Sense) (h : Host) (s : State) (b n : ℕ) (node : Node) (sel : Selector) (r : RunsAt h b n node) (q : IsSent z h s b n node sel r) → StandsFor z h s → CanGo h → IsBlockless h
-    → (goal cost word : ℕ) → goal ≤ 1000000000 → IsData z (met_of node s q.sender) word → Stretch z (data_answers goal cost word (with_machine h q.asks.to)) s (suc goal)
+    → (goal cost word : ℕ) → goal ≤ 1000000000 → IsData z (met_of node s q.sender) word → StretchOn z (data_answers goal cost word (with_machine h q.asks.to)) s (suc goal)
 
 -- A run of 2 to the 40th instructions or more comes to its trap.
 abbrev pub StretchesRun : Type 0
 StretchesRun = (z : Sense) (h : Host) (s : State) (left : ℕ) → left ≤ 1000000001 → (x : Stretch z h s left) → (most : ℕ) → 2 ^ 40 ≤ most → RunsTo most x.instructions x.trap h.machine x.to
 
--- Silent runs of the source, one behind the other, are one.
+-- Runs behind the gate, one behind the other, are one.
 abbrev pub RunsJoin : Type 0
-RunsJoin = (a b : ℕ) (s t : State) (r : Reached) → run a (silent s) ≡ silent t → run b (silent t) ≡ r → run (a + b) (silent s) ≡ r
+RunsJoin = (a b : ℕ) (s t : State) (r : Reached) → gated_run a (silent s) ≡ silent t → gated_run b (silent t) ≡ r → gated_run (a + b) (silent s) ≡ r
 
 -- and so is a run and a silent step
 abbrev pub StepJoins : Type 0
-StepJoins = (a : ℕ) (s t : State) → run a (silent s) ≡ silent t → (step t).out ≡ [] → run (a + 1) (silent s) ≡ silent (step t).state
+StepJoins = (a : ℕ) (s t u : State) → gated_run a (silent s) ≡ silent t → gated_step t ≡ silent u → gated_run (a + 1) (silent s) ≡ silent u
