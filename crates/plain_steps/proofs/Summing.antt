@@ -28,7 +28,8 @@ use Rattle.raw_steps.specs.Sends.{here_of}
 use Rattle.raw_steps.specs.Messages.{asked, asked_words}
 use Rattle.raw_steps.specs.Stands.{Sense, IsAt, Follows as RawFollows}
 use Rattle.raw_steps.proofs.Summing.{asked_is, untagged_is, one_untagged, sum_follows, difference_follows}
-use Rattle.plain_words.specs.Code.{poll, is_sum, sum_code, primitive_code, answered_code}
+use Rattle.sparc_insn.specs.declared.insn.Insn.TheVariants.{Trap}
+use Rattle.plain_words.specs.Code.{poll, is_sum, arguments_code, handed_code, summed_code, sum_code, primitive_code, answered_code}
 use Rattle.plain_words.specs.Moves.{IsReady, Does, pended, handed_receiver, first_handed, handed_argument, summed, overflows}
 use Rattle.plain_words.specs.Showing.{viewed}
 use Rattle.plain_words.specs.Units.{node_code, owns_context, frame_locals, frame_words}
@@ -102,6 +103,24 @@ summed_here z h s b n name args implied handler is r at known a older running = 
 comes_not : (less : Bool) (v : Value) (vs : List Value) → ((x y : ℤ) → v ≡ values.Int x → vs ≡ values.Int y ∷ [] → is_small (if less then x -ℤ y else x +ℤ y) ≡ false) → comes_to less v vs ≡ false
 comes_not less (values.Int x) (values.Int y ∷ []) f = f x y refl refl
 comes_not less _ _ f = refl
+
+-- how many words hand a receiver and arguments over
+arguments_long : (to locals k n : ℕ) → length (arguments_code to locals k n) ≡ n
+arguments_long to locals k zero = refl
+arguments_long to locals k (suc n) = ap suc (arguments_long (to + 1) locals (k + 1) n)
+
+handed_long : (implied : Bool) (locals k n : ℕ) → length (handed_code implied locals k n) ≡ suc n
+handed_long true locals k n = ap suc (arguments_long 9 locals k n)
+handed_long false locals k n = ap suc (arguments_long 9 locals (k + 1) n)
+
+sum_long : (less implied : Bool) (locals k n : ℕ) → length (sum_code less implied locals k n) ≡ n + 8
+sum_long less implied locals k n = omega (arith, length-append (handed_code implied locals k n) (summed_code less), handed_long implied locals k n)
+
+plain_long : (sum : Bool) (name args : ℕ) (implied : Bool) (locals k n : ℕ) → is_sum name args ≡ sum → sum ≡ false → length (primitive_code name args implied locals k n) ≡ n + 2
+plain_long true name args implied locals k n e never_so = absurd (cc)
+plain_long false name args implied locals k n e never_so =
+    ap (λ c. length (if c then sum_code (nat_eq name INT_SUB.0) implied locals k n else (handed_code implied locals k n ++ (Trap 3 ∷ [])))) e
+    ∙ omega (arith, length-append (handed_code implied locals k n) (Trap 3 ∷ []), handed_long implied locals k n)
 
 never : (b : Bool) → (b ≡ true → ⊥) → b ≡ false
 never true f = absurd (f refl)
@@ -241,7 +260,8 @@ module _ (less : Bool) (name : Name) (f : ℤ → ℤ → ℤ) (implied handler 
       let front = sum_code less implied locals first (1 + one_if handler) in
       let code_is : code_at h b n node ≡ front ++ answered_code locals first = code h.references (owns_context x) locals (words_before h.references (owns_context x) locals 0 0 x.nodes n) k in
       let ready = (let P : List Insn → Type 0 = IsReady m m.pc (frame_words x) in subst P code_is (ready_at h b n node r can.left)) in
-      ByService (summed_here z h s b n name 1 implied handler false r at known) (m.pc + 24 + 4 * (7 + (1 + one_if handler)))
+      let long : length (poll ++ code_at h b n node) ≡ 6 + (1 + one_if handler + 8 + 1) = ap (λ c. length (poll ++ c)) code_is ∙ omega (arith, length-append front (answered_code locals first), sum_long less implied locals first (1 + one_if handler)) in
+      ByService (summed_here z h s b n name 1 implied handler false r at known) (m.pc + 24 + 4 * (7 + (1 + one_if handler))) (omega (arith, long))
       (sum_asks m m.pc (frame_words x) less implied locals first (1 + one_if handler) (front_ready m m.pc (frame_words x) front (answered_code locals first) ready) (omega arith) (omega (arith, one_few handler)) (omega (arith, first_is implied first, room_of h b n can, enough, dd)) e)
 
 -- the row of a text
@@ -303,6 +323,7 @@ by_sum false name args implied handler z h s b n stood r can e =
     let few : args + one_if handler ≤ 5 = (can.runs b).translates.short n node r.node_is in
     let at = at_node_of z h s b n node stood r in
     ByService (summed_here z h s b n name args implied handler false r at (ap (λ c. c && comes_to (nat_eq name.0 INT_SUB.0) (asked args implied handler (here_of s at.young at.older)).receiver (asked args implied handler (here_of s at.young at.older)).arguments) e)) (m.pc + 24 + 4 * (1 + (args + one_if handler)))
+    (omega (arith, length-append (primitive_code name.0 args implied locals first (args + one_if handler)) (answered_code locals first), plain_long false name.0 args implied locals first (args + one_if handler) e refl))
     (primitive_asks m m.pc (frame_words x) name.0 args implied locals first (args + one_if handler) e
     (front_ready m m.pc (frame_words x) (primitive_code name.0 args implied locals first (args + one_if handler)) (answered_code locals first) (ready_at h b n node r can.left)) few (omega (arith, first_is implied first, room_of h b n can, enough, depth_is x.nodes n)))
 

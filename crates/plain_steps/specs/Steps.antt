@@ -1,5 +1,5 @@
 -- The words of plain code do the source's step.
-use Rattle.std.specs.Prelude.{◌≡◌, ℕ, ℤ, suc, ◌+◌, ◌-◌, ◌<◌, ◌≤◌, ◌+ℤ◌, ◌-ℤ◌, Bool, true, false, not, ◌&&◌, nat_eq, if◌then◌else◌, codes, List, [], ◌∷◌, Some, slice_get}
+use Rattle.std.specs.Prelude.{◌≡◌, ℕ, ℤ, suc, ◌+◌, ◌-◌, ◌<◌, ◌≤◌, ◌+ℤ◌, ◌-ℤ◌, Bool, true, false, not, ◌*◌, ◌&&◌, nat_eq, if◌then◌else◌, codes, List, [], ◌∷◌, ◌++◌, length, Some, slice_get}
 use Rattle.self_terms.specs.declared.names.Name.{Name}
 use Rattle.self_terms.specs.declared.names.TheConstants.{INT_ADD, INT_SUB}
 use Rattle.self_terms.specs.Depths.{one_if, depth_from}
@@ -20,14 +20,14 @@ use Rattle.raw_steps.specs.Meeting.{HasCore}
 use Rattle.raw_steps.specs.Messages.{asked}
 use Rattle.raw_steps.specs.Sends.{here_of}
 use Rattle.raw_steps.specs.Stands.{Sense, Stands}
-use Rattle.plain_words.specs.Code.{is_sum}
+use Rattle.plain_words.specs.Code.{poll, is_sum}
 use Rattle.plain_words.specs.Going.{Goes, IsTrap}
 use Rattle.plain_words.specs.Moves.{Asks, handed_receiver, first_handed}
 use Rattle.plain_words.specs.Units.{owns_context, frame_locals}
 use Rattle.plain_runs.specs.Host.{Host, raw_of}
 use Rattle.plain_runs.specs.Services.{answered}
 use Rattle.plain_runs.specs.Sound.{IsHosted, RunsAt}
-use Rattle.plain_runs.specs.Course.{with_machine, CanGo}
+use Rattle.plain_runs.specs.Course.{with_machine, CanGo, code_at}
 
 -- the names of the primitives for sums and differences have their texts
 pub record NamesSums (names : List (List ℕ)) : Type 0 where
@@ -103,10 +103,14 @@ is_summed name args m = is_sum name args && comes_to (nat_eq name INT_SUB.0) m.r
 abbrev pub IsSummed : State → ℕ → ℕ → Bool → Bool → Bool → Type 0
 IsSummed s name args implied handler is = (a : Activation) (older : List Activation) → slice_get s.activities s.current ≡ Some (Running (a ∷ older)) → is_summed name args (asked args implied handler (here_of s a older)) ≡ is
 
+-- the address is that of the last word but one of a node's
+abbrev pub IsTrapOf : Host → ℕ → ℕ → Node → ℕ → Type 0
+IsTrapOf h b n node at = at + 8 ≡ h.machine.pc + 4 * length (poll ++ code_at h b n node)
+
 -- A primitive's words do the source's step, or they ask for service 3, with receiver, arguments and handler in place.
 pub data Performs (z : Sense) (h : Host) (s : State) (b n : ℕ) (name : Name) (args : ℕ) (implied handler : Bool) : Type 0 where
   InWords : IsSummed s name.0 args implied handler true → DoesStep z h s → Performs z h s b n name args implied handler
-  ByService : IsSummed s name.0 args implied handler false → (at : ℕ) → AsksPrimitive h b n args implied handler at → Performs z h s b n name args implied handler
+  ByService : IsSummed s name.0 args implied handler false → (at : ℕ) → IsTrapOf h b n (nodes.Prim name args implied handler) at → AsksPrimitive h b n args implied handler at → Performs z h s b n name args implied handler
 
 abbrev pub WordsPerform : Type 0
 WordsPerform = (name : Name) (args : ℕ) (implied handler : Bool) (z : Sense) (h : Host) (s : State) (b n : ℕ) → StandsFor z h s → RunsAt h b n (nodes.Prim name args implied handler) → CanGo h → Performs z h s b n name args implied handler

@@ -1,11 +1,13 @@
 -- From a node's poll: its step, or a trap.
-use Rattle.std.proofs.Common.{◌≡◌, ℕ, zero, suc, ◌+◌, ◌-◌, ◌*◌, ◌<◌, ◌≤◌, refl, arith}
-use Rattle.std.specs.Prelude.{Bool, true, false, Some}
+use Rattle.std.proofs.Common.{◌≡◌, ℕ, zero, suc, ◌+◌, ◌-◌, ◌*◌, ◌<◌, ◌≤◌, refl, subst, arith, length-append}
+use Rattle.std.specs.Prelude.{Bool, true, false, not, nat_eq, if◌then◌else◌, List, [], ◌∷◌, ◌++◌, length, Some}
 use Rattle.self_terms.specs.declared.names.Name.{Name}
+use Rattle.self_terms.specs.declared.names.TheConstants.{INT_SUB}
 use Rattle.self_terms.specs.declared.nodes.Node.{Node}
 use Rattle.self_terms.specs.declared.nodes.Node.TheVariants as nodes
 use Rattle.self_terms.specs.declared.nodes.Selector.{Selector}
-use Rattle.self_terms.specs.Depths.{depth_from}
+use Rattle.self_terms.specs.Depths.{one_if, depth_from}
+use Rattle.sparc_insn.specs.declared.insn.Insn.TheVariants.{Trap}
 use Rattle.sparc_machine.specs.State.{MachineState}
 use Rattle.source_model.specs.State.{Activation, State}
 use Rattle.source_model.specs.Soundness.{body_in}
@@ -13,7 +15,8 @@ use Rattle.source_model.specs.Step.{step}
 use Rattle.raw_steps.specs.Sends.{here_of}
 use Rattle.raw_steps.specs.Stands.{Sense}
 use Rattle.plain_words.specs.Going.{Goes, IsTrap}
-use Rattle.plain_words.specs.Code.{poll}
+use Rattle.plain_words.specs.Code.{poll, is_sum, handed_code, summed_code, sum_code, primitive_code, answered_code}
+use Rattle.plain_words.specs.Moves.{Moved}
 use Rattle.plain_words.specs.Translating.{IsShort}
 use Rattle.plain_words.specs.Units.{frame_locals, frame_words}
 use Rattle.plain_words.proofs.Basics.{at_front}
@@ -84,6 +87,22 @@ answers : (z : Sense) (h : Host) (s : State) (on : IsOn z h s) → gated_step s 
 answers z h s on built zero step last = ends z h s on (last refl)
 answers z h s on built (suc o) step last = Steps built (step o refl)
 
+-- a primitive's code has two words and more
+some_primitive : (sum less implied : Bool) (locals k n : ℕ) → 1 ≤ length (if sum then sum_code less implied locals k n else (handed_code implied locals k n ++ (Trap 3 ∷ [])))
+some_primitive true less implied locals k n = omega (arith, length-append (handed_code implied locals k n) (summed_code less))
+some_primitive false less implied locals k n = omega (arith, length-append (handed_code implied locals k n) (Trap 3 ∷ []))
+
+two_words : (h : Host) (b n : ℕ) (name : Name) (args : ℕ) (implied handler : Bool) → 2 ≤ length (code_at h b n (nodes.Prim name args implied handler))
+two_words h b n name args implied handler =
+    let x = body_in h.bodies b in
+    let locals = frame_locals x in
+    let first = depth_from 0 x.nodes n - (args + one_if (not implied) + one_if handler) in
+    omega (
+      arith,
+      length-append (primitive_code name.0 args implied locals first (args + one_if handler)) (answered_code locals first),
+      some_primitive (is_sum name.0 args) (nat_eq name.0 INT_SUB.0) implied locals first (args + one_if handler),
+    )
+
 -- a primitive is done in words, or asks for its service
 performs : (z : Sense) (h : Host) (s : State) (x : IsSound z h s) → CanGo h → (b n : ℕ) (name : Name) (args : ℕ) (implied handler : Bool) (r : RunsAt h b n (nodes.Prim name args implied handler)) → Performs z h s b n name args implied handler
     → Done z h s (on_of z h s x b n (nodes.Prim name args implied handler) r)
@@ -91,9 +110,14 @@ performs z h s x can b n name args implied handler r (InWords summed d) =
     let node = nodes.Prim name args implied handler in
     let at = at_node_of z h s b n node x.stands r in
     Steps (simply z h s x b n node r (summed at.young at.older at.at.here)) d
-performs z h s x can b n name args implied handler r (ByService unsummed at a) =
+performs z h s x can b n name args implied handler r (ByService unsummed at stands a) =
     let node = nodes.Prim name args implied handler in
     let y = at_node_of z h s b n node x.stands r in
+    let words = code_at h b n node in
+    let long : length (poll ++ words) ≡ 6 + length words = omega (arith, length-append poll words) in
+    let some : 2 ≤ length words = two_words h b n name args implied handler in
+    let last : at + 8 ≡ h.machine.pc + 4 * length (poll ++ words) = stands in
+    let here : at ≡ h.machine.pc + 24 + 4 * (length words - 2) = omega (arith, last, long, some) in
     Asks (record {
       instructions = a.instructions;
       few = omega (arith, a.few);
@@ -108,8 +132,9 @@ performs z h s x can b n name args implied handler r (ByService unsummed at a) =
         older = y.older;
         here = y.at.here;
         unbuilt = gate_is s y.young y.older node false y.at.here y.at.node_is (unsummed y.young y.older y.at.here);
-        at = at;
-        moved = a.moved;
+        word = length words - 2;
+        inside = omega (arith, some);
+        moved = (let P : ℕ → Type 0 = λ p. Moved h.machine a.to p h.machine.memory (h.machine.regs 2) in subst P here a.moved);
       });
     })
 
@@ -140,7 +165,7 @@ node_done z h s x can b n nodes.NonLocal r plain own short =
     let some = (can.runs b).takes n nodes.NonLocal r.node_is in
     let y = at_node_of z h s b n nodes.NonLocal x.stands r in
     let a = non_local_asks h.machine h.machine.pc (frame_words body) (frame_locals body) (k - 1) (ready_at h b n nodes.NonLocal r can.left) (omega (arith, room, some, depth_is body.nodes n)) in
-    Asks (record { instructions = a.instructions; few = omega (arith, a.few); to = a.to; goes = a.goes; trap = 4; stands = a.trap; halts = AtLack (record { service = refl; can = can; sender = y.young; older = y.older; here = y.at.here; unbuilt = gate_is s y.young y.older nodes.NonLocal false y.at.here y.at.node_is refl; at = h.machine.pc + 24 + 4 * (1 + 0); moved = a.moved }) })
+    Asks (record { instructions = a.instructions; few = omega (arith, a.few); to = a.to; goes = a.goes; trap = 4; stands = a.trap; halts = AtLack (record { service = refl; can = can; sender = y.young; older = y.older; here = y.at.here; unbuilt = gate_is s y.young y.older nodes.NonLocal false y.at.here y.at.node_is refl; word = 1; inside = omega arith; moved = a.moved }) })
 node_done z h s x can b n nodes.End r plain own short =
     answers z h s (on_of z h s x b n nodes.End r) (simply z h s x b n nodes.End r refl) r.view.older (λ o e. end_steps z h s b n o x.stands r can plain.context e) (λ e. last_end z h s b n x.stands r can plain.context e)
 

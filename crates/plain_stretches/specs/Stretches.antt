@@ -1,5 +1,5 @@
 -- A stretch: how words go on to the next trap.
-use Rattle.std.specs.Prelude.{◌≡◌, ◌≢◌, ℕ, suc, ◌+◌, ◌-◌, ◌*◌, ◌^◌, ◌<◌, ◌≤◌, false, List, [], ◌∷◌, Option, Some, None, slice_get}
+use Rattle.std.specs.Prelude.{◌≡◌, ◌≢◌, ℕ, suc, ◌+◌, ◌-◌, ◌*◌, ◌^◌, ◌<◌, ◌≤◌, false, List, [], ◌∷◌, length, Option, Some, None, slice_get}
 use Rattle.self_terms.specs.declared.nodes.Node.{Node}
 use Rattle.self_terms.specs.declared.nodes.Node.TheVariants as nodes
 use Rattle.self_terms.specs.declared.nodes.Selector.{Selector}
@@ -17,7 +17,7 @@ use Rattle.plain_runs.specs.Host.{Host}
 use Rattle.plain_runs.specs.Units.{HasUnit}
 use Rattle.plain_runs.specs.Services.{data_answers}
 use Rattle.plain_runs.specs.Sound.{RunsAt}
-use Rattle.plain_runs.specs.Course.{with_machine, CanGo, AllRun}
+use Rattle.plain_runs.specs.Course.{with_machine, CanGo, AllRun, code_at}
 use Rattle.plain_steps.specs.Steps.{StandsFor, DoesStep, EndsActivity}
 use Rattle.plain_sends.specs.Sends.{selector_of, met_of, IsSent, IsData}
 use Rattle.plain_stretches.specs.Gate.{not_built, gated_step, gated_run}
@@ -57,7 +57,7 @@ pub record Ends (z : Sense) (h : Host) (s : State) (to : MachineState) : Type 0 
   pub ends : EndsActivity z h s
   pub there : to ≡ ends.to
 
--- One of these has led to the service that it lacks: it isn't built. Nothing has changed but scratch registers.
+-- One of these has led to the service that it lacks, at one of its words behind its poll: it isn't built. Nothing has changed but scratch registers.
 pub record Lacks (z : Sense) (h : Host) (s : State) (on : IsOn z h s) (trap : ℕ) (to : MachineState) : Type 0 where
   pub service : lacking on.node ≡ Some trap
   pub can : CanGo h
@@ -65,8 +65,9 @@ pub record Lacks (z : Sense) (h : Host) (s : State) (on : IsOn z h s) (trap : �
   pub older : List Activation
   pub here : slice_get s.activities s.current ≡ Some (Running (sender ∷ older))
   pub unbuilt : gated_step s ≡ silent (not_built s sender)
-  pub at : ℕ
-  pub moved : Moved h.machine to at h.machine.memory (h.machine.regs 2)
+  pub word : ℕ
+  pub inside : word + 1 ≤ length (code_at h on.body on.number on.node)
+  pub moved : Moved h.machine to (h.machine.pc + 24 + 4 * word) h.machine.memory (h.machine.regs 2)
 
 -- Why the machine of a host, from a node's poll, has come to a trap of a number: nothing was left of the goal, or else for its node.
 pub data Halts (z : Sense) (h : Host) (s : State) (on : IsOn z h s) (trap : ℕ) (to : MachineState) : Type 0 where
