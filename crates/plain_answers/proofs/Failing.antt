@@ -10,16 +10,18 @@ use Rattle.sparc_store.specs.Windows.{Frame as Window, saved_at, frame_before, b
 use Rattle.sparc_machine.specs.State.{MachineState}
 use Rattle.source_model.specs.Messages.{body_of}
 use Rattle.source_model.specs.Soundness.{body_in}
-use Rattle.source_model.specs.State.{Activation, Running, State}
+use Rattle.source_model.specs.State.{Activation, Running, Failed as Ended_by, State, with_current}
 use Rattle.source_model.specs.Step.{node_at, place_at, place_of}
 use Rattle.heap_cells.specs.Source.{Plain as without}
 use Rattle.frame_walk.specs.Places.{Descriptor, Frame}
-use Rattle.frame_walk.specs.Raw.{Going, Failed as Failure}
+use Rattle.frame_walk.specs.Raw.{Raw, Going, Failed as Failure}
 use Rattle.frame_walk.specs.Walk.{activations, AreLaid}
 use Rattle.raw_steps.specs.Ends.{Ends}
 use Rattle.raw_steps.specs.Sends.{begins, method_entry, at_node}
-use Rattle.raw_steps.specs.Stands.{Sense, IsAt, AreActivations, makes_blocks}
-use Rattle.raw_steps.proofs.Failing.{fails_follow}
+use Rattle.raw_steps.specs.Meeting.{HasCore}
+use Rattle.raw_steps.specs.Stands.{Sense, Stands, IsAt, AreActivations, makes_blocks}
+use Rattle.raw_steps.proofs.Failing.{fails_follow, ends_follow}
+use Rattle.raw_steps.proofs.Lasting.{core_stays}
 use Rattle.raw_steps.proofs.Nexts.{current_all}
 use Rattle.raw_steps.proofs.Refusing.{overflows}
 use Rattle.raw_steps.proofs.Sending.{method_enters, missing_is}
@@ -37,7 +39,7 @@ use Rattle.plain_steps.specs.Steps.{StandsFor}
 use Rattle.plain_steps.proofs.Answering.{no_context, wants_none}
 use Rattle.plain_steps.proofs.Here.{at_node_of}
 use Rattle.plain_steps.proofs.Words.{stands_after}
-use Rattle.plain_answers.specs.Failing.{PlainUnits, ErrorsFail, MissingFails, OverflowFails, PlacesAgree}
+use Rattle.plain_answers.specs.Failing.{PlainUnits, ActivitiesEnd, ErrorsFail, MissingFails, OverflowFails, PlacesAgree}
 
 -- Threads, where the current activity has failed.
 
@@ -95,6 +97,44 @@ none_end z h s f at (a ∷ older) (y ∷ ys) are plain mem =
     (mem, (((λ e. refl), (λ some. absurd (some none))), none_end z h s f at older ys are.2 plain.1 mem))
 none_end z h s f at [] (y ∷ ys) are plain mem = absurd are
 none_end z h s f at (a ∷ older) [] are plain mem = absurd are
+
+pub activities_end : ActivitiesEnd
+activities_end z h s b n node f r can plain e place to p mv =
+    let m = h.machine in
+    let v = viewed m b n (frame_locals (body_in h.bodies b)) (depth (body_in h.bodies b).nodes n) in
+    let callers = callers_of h r.view.older in
+    let its = at_node_of z h s b n node f r in
+    let all = current_all (raw_of h) s z f.stands its.young its.older v callers node its.at in
+    let all_plain = callers_plain h plain (entry_frame h.current) ending_stub m.memory r.view.older (m.regs 30) (frame_before m.memory (m.regs 30) m.older) (m.regs 31 + 8) (but_first m.older) r.view.callers in
+    let ends = none_end z h s f s.current (its.young ∷ its.older) (v ∷ callers) all (plain b r.poll.at r.poll.unit, all_plain) (raw_of h).mem in
+    let raw = ends_follow (raw_of h) s z f.stands its.young its.older v callers node its.at e place (raw_of h).mem ends in
+    let after = gone h to e place in
+    let is : raw_of after ≡ record (raw_of h) { threads = slice_set (raw_of h).threads h.current (Failure e place) } = λ i. record {
+      maps = h.maps;
+      mem = ap heap_words mv.memory_is i;
+      heap = record { top = mv.kept 6 refl i; next = h.next };
+      threads = threads_fail h to e place 0 h.current h.statuses (Waiting r.view.sp r.view.pc r.view.known) mv.memory_is (omega arith) r.view.running i;
+      current = h.current;
+      steps = ap (λ y. h.steps + y) mv.counted i;
+      cost = ap (λ y. h.cost + y) (mv.kept 3 refl) i;
+    } in
+    let windows = (let P : List Window → Type 0 = λ y. All IsWindow y in subst P (sym mv.older) can.hosted.windows) in
+    let t = with_current (Ended_by e place) s in
+    let P : Raw → Type 0 = λ q. Stands raw.to q t in
+    let Q : Raw → Type 0 = λ q. HasCore q t raw.to in
+    let core = core_stays z raw.to (raw_of h) (record (raw_of h) { threads = slice_set (raw_of h).threads h.current (Failure e place) }) s t f.core raw.grows refl (record { names = refl; core = refl; fixed = refl; bodies = refl }) in
+    record {
+      hosted = hosted_same h to mv.memory_is (mv.kept 0 refl ∙ can.hosted.register_0) windows can.hosted;
+      sense = raw.to;
+      stands = record {
+        stands = subst P (sym is) raw.stands;
+        core = subst Q (sym is) core;
+        bodies = f.bodies;
+        objects = λ o w at. raw.grows.objects o w (f.objects o w at);
+        nil = raw.grows.objects s.core.nil h.references.nil f.nil;
+        sums = f.sums;
+      };
+    }
 
 pub errors_fail : ErrorsFail
 errors_fail z h s b n node f r can plain a older running e err to p mv =

@@ -10,7 +10,7 @@ use Rattle.sparc_machine.specs.State.{MachineState}
 use Rattle.source_model.specs.declared.objects.Content.TheVariants.{Method}
 use Rattle.source_model.specs.Messages.{Missing, Holds}
 use Rattle.source_model.specs.Soundness.{body_in}
-use Rattle.source_model.specs.State.{Activation, Running, State}
+use Rattle.source_model.specs.State.{Activation, Running, Failed, State, with_current}
 use Rattle.source_model.specs.Step.{done, place_at, place_of, step}
 use Rattle.raw_steps.specs.Sends.{here_of}
 use Rattle.raw_steps.specs.Stands.{Sense}
@@ -36,6 +36,17 @@ pub record Fails (h : Host) (m : MachineState) (s : State) (e : ErrorName) (p : 
   pub stands : StandsFor sense (failed e p (with_machine h m)) (step s).state
   pub uncounted : (step s).state.steps ≡ s.steps
   pub silent : (step s).out ≡ []
+
+-- Where the current activity has ended with this error, at this place, this machine and the host stand for the state in which it has.
+pub record EndsBy (h : Host) (m : MachineState) (s : State) (e : ErrorName) (p : Place) : Type 0 where
+  pub hosted : IsHosted (with_machine h m)
+  pub sense : Sense
+  pub stands : StandsFor sense (failed e p (with_machine h m)) (with_current (Failed e p) s)
+
+-- so it is at a node, while nothing but scratch registers has changed since its poll
+abbrev pub ActivitiesEnd : Type 0
+ActivitiesEnd = (z : Sense) (h : Host) (s : State) (b n : ℕ) (node : Node) → StandsFor z h s → RunsAt h b n node → CanGo h → PlainUnits h
+    → (e : ErrorName) (place : Place) (to : MachineState) (p : ℕ) → Moved h.machine to p h.machine.memory (h.machine.regs 2) → EndsBy h to s e place
 
 -- a node whose step is an error, while nothing but scratch registers has changed since its poll
 abbrev pub ErrorsFail : Type 0

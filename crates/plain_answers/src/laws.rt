@@ -1,6 +1,6 @@
 // Laws of what service 1 does.
 ghost use Rattle.plain_answers.specs.Assigning.{AssignmentsAnswer, GoalsAreLeft};
-ghost use Rattle.plain_answers.specs.Failing.{ErrorsFail, MissingFails, OverflowFails, PlacesAgree};
+ghost use Rattle.plain_answers.specs.Failing.{ActivitiesEnd, ErrorsFail, MissingFails, OverflowFails, PlacesAgree};
 ghost use Rattle.plain_answers.specs.Fitting.{AssignmentsFit, MethodsFit};
 ghost use Rattle.plain_answers.specs.Found.{Assigns, AssignmentsHaveWords, Finds, Misses, OfHolders, OfParents, OfValues, Reads, ValuesFind};
 ghost use Rattle.plain_answers.specs.Whole.{WholeAssigns, WholeStands};
@@ -12,10 +12,12 @@ pub fn assignments_answer_sends()
     ensures goal { GoalsAreLeft }
 {}
 
-/// A law: where a step is an error, the current activity ends with it, at the place of its node: machine and host then stand for the state after
+/// A law: the current activity may end by any error, at any place: machine and host then stand for the state in which it has. Where a step is an
+/// error, the activity ends with it, at the place of its node: machine and host then stand for the state after
 /// the step. So it is of a message that meets no slot or more than one, and of one that meets a method where 4096 activations are there. The place
 /// is that of the node at which the machine is.
 pub fn errors_end_activities()
+    ensures any { ActivitiesEnd }
     ensures node { ErrorsFail }
     ensures missing { MissingFails }
     ensures overflow { OverflowFails }

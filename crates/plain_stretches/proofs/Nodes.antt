@@ -79,13 +79,13 @@ sends z h s x can b n node sel is r few =
       halts = AtSend refl (record { can = can; selector = sel; is = is; sent = q; there = refl });
     })
 
-ends : (z : Sense) (h : Host) (s : State) (on : IsOn z h s) → EndsActivity z h s → Done z h s on
-ends z h s on e = Asks (record { instructions = e.instructions; few = e.few; to = e.to; goes = e.goes; trap = 9; stands = e.trap; halts = AtEnd refl (record { ends = e; there = refl }) })
+ends : (z : Sense) (h : Host) (s : State) (on : IsOn z h s) → CanGo h → gated_step s ≡ step s → EndsActivity z h s → Done z h s on
+ends z h s on can built e = Asks (record { instructions = e.instructions; few = e.few; to = e.to; goes = e.goes; trap = 9; stands = e.trap; halts = AtEnd refl (record { can = can; built = built; ends = e; there = refl }) })
 
 -- an activation answers its caller, or the activity
-answers : (z : Sense) (h : Host) (s : State) (on : IsOn z h s) → gated_step s ≡ step s → (older : ℕ) → ((o : ℕ) → older ≡ suc o → DoesStep z h s) → (older ≡ 0 → EndsActivity z h s) → Done z h s on
-answers z h s on built zero step last = ends z h s on (last refl)
-answers z h s on built (suc o) step last = Steps built (step o refl)
+answers : (z : Sense) (h : Host) (s : State) (on : IsOn z h s) → CanGo h → gated_step s ≡ step s → (older : ℕ) → ((o : ℕ) → older ≡ suc o → DoesStep z h s) → (older ≡ 0 → EndsActivity z h s) → Done z h s on
+answers z h s on can built zero step last = ends z h s on can built (last refl)
+answers z h s on can built (suc o) step last = Steps built (step o refl)
 
 -- a primitive's code has two words and more
 some_primitive : (sum less implied : Bool) (locals k n : ℕ) → 1 ≤ length (if sum then sum_code less implied locals k n else (handed_code implied locals k n ++ (Trap 3 ∷ [])))
@@ -157,7 +157,7 @@ node_done z h s x can b n (nodes.Prim name args implied handler) r plain own sho
 node_done z h s x can b n nodes.Drop r plain own short = Steps (simply z h s x b n nodes.Drop r refl) (drop_steps z h s b n x.stands r can tt)
 node_done z h s x can b n nodes.Restart r plain own short = Steps (simply z h s x b n nodes.Restart r refl) (restart_steps z h s b n x.stands r can tt)
 node_done z h s x can b n nodes.Return r plain own short =
-    answers z h s (on_of z h s x b n nodes.Return r) (simply z h s x b n nodes.Return r refl) r.view.older (λ o e. return_steps z h s b n o x.stands r can plain.context e) (λ e. last_return z h s b n x.stands r can plain.context e)
+    answers z h s (on_of z h s x b n nodes.Return r) can (simply z h s x b n nodes.Return r refl) r.view.older (λ o e. return_steps z h s b n o x.stands r can plain.context e) (λ e. last_return z h s b n x.stands r can plain.context e)
 node_done z h s x can b n nodes.NonLocal r plain own short =
     let body = body_in h.bodies b in
     let k = depth_from 0 body.nodes n in
@@ -167,7 +167,7 @@ node_done z h s x can b n nodes.NonLocal r plain own short =
     let a = non_local_asks h.machine h.machine.pc (frame_words body) (frame_locals body) (k - 1) (ready_at h b n nodes.NonLocal r can.left) (omega (arith, room, some, depth_is body.nodes n)) in
     Asks (record { instructions = a.instructions; few = omega (arith, a.few); to = a.to; goes = a.goes; trap = 4; stands = a.trap; halts = AtLack (record { service = refl; can = can; sender = y.young; older = y.older; here = y.at.here; unbuilt = gate_is s y.young y.older nodes.NonLocal false y.at.here y.at.node_is refl; word = 1; inside = omega arith; moved = a.moved }) })
 node_done z h s x can b n nodes.End r plain own short =
-    answers z h s (on_of z h s x b n nodes.End r) (simply z h s x b n nodes.End r refl) r.view.older (λ o e. end_steps z h s b n o x.stands r can plain.context e) (λ e. last_end z h s b n x.stands r can plain.context e)
+    answers z h s (on_of z h s x b n nodes.End r) can (simply z h s x b n nodes.End r refl) r.view.older (λ o e. end_steps z h s b n o x.stands r can plain.context e) (λ e. last_end z h s b n x.stands r can plain.context e)
 
 pub goal_done : (z : Sense) (h : Host) (s : State) (on : IsOn z h s) → left_of h ≡ 0 → Halted z h s on
 goal_done z h s on none =

@@ -54,6 +54,8 @@ pub record Sends (z : Sense) (h : Host) (s : State) (on : IsOn z h s) (to : Mach
 
 -- One that ends the oldest activation has led to service 9.
 pub record Ends (z : Sense) (h : Host) (s : State) (to : MachineState) : Type 0 where
+  pub can : CanGo h
+  pub built : gated_step s ≡ step s
   pub ends : EndsActivity z h s
   pub there : to ≡ ends.to
 

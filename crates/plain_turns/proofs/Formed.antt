@@ -1,0 +1,72 @@
+-- Steps behind the gate keep a state well formed.
+use Rattle.std.proofs.Common.{◌≡◌, ℕ, zero, suc, ◌<◌, ap, sym, subst, arith, length}
+use Rattle.std.specs.Prelude.{Bool, true, false, if◌then◌else◌, [], ◌∷◌, Option, Some, None, slice_get, slice_set}
+use Rattle.self_terms.specs.declared.errors.ErrorName.{ErrorName}
+use Rattle.self_terms.specs.declared.nodes.Place.{Place}
+use Rattle.self_terms.specs.declared.values.Value.{Value}
+use Rattle.self_terms.specs.declared.values.Value.TheVariants as values
+use Rattle.source_model.specs.State.{Activation, Activity, Running, Answered, Failed, State, Reached, silent, with_current}
+use Rattle.source_model.specs.Canon.{Each, ActivityHas, HasOwnNumbers}
+use Rattle.source_model.specs.Soundness.{IsActivity}
+use Rattle.source_model.specs.Step.{step, node_at}
+use Rattle.source_model.specs.Messages.{body_of}
+use Rattle.source_model.specs.Formed.{ThingHolds, ActivityHolds, IsThere, AreInOrder, IsFormed, IsWellFormed}
+use Rattle.source_model.proofs.Keeping.{set_each}
+use Rattle.source_model.proofs.Having.{each}
+use Rattle.source_model.proofs.Forming.{thing_holds, activity_holds, steps_form}
+use Rattle.raw_steps.specs.Sends.{here_of}
+use Rattle.plain_stretches.specs.Gate.{is_built, not_built, gated_at, gated_step, gated_onward, gated_run}
+use Rattle.plain_stretches.proofs.Settled.{set_long}
+
+-- an activity that has failed is one
+pub failed_formed : (s : State) (e : ErrorName) (p : Place) → IsWellFormed s → IsWellFormed (with_current (Failed e p) s)
+failed_formed s e p formed =
+    let home = formed.0 in
+    let f = formed.1 in
+    let t = with_current (Failed e p) s in
+    let V : Value → Type 0 = IsThere home s in
+    let W : Value → Type 0 = IsThere home t in
+    let there : (v : Value) → V v → W v = still home s t in (
+      home,
+      record {
+        own = record {
+          few = omega (arith, f.own.few, set_long s.activities s.current (Failed e p));
+          below = record { things = f.own.below.things; activities = set_each (ActivityHas (λ k. k < s.unused)) s.activities s.current (Failed e p) f.own.below.activities tt };
+        };
+        order = set_each AreInOrder s.activities s.current (Failed e p) f.order tt;
+        well = record { bodies = f.well.bodies; activities = set_each (IsActivity s.bodies home) s.activities s.current (Failed e p) f.well.activities tt };
+        values = record {
+          things = each (ThingHolds V) (ThingHolds W) (thing_holds V W there) s.things f.values.things;
+          activities = set_each (ActivityHolds W) s.activities s.current (Failed e p) (each (ActivityHolds V) (ActivityHolds W) (activity_holds V W there) s.activities f.values.activities) tt;
+        };
+        world = f.world;
+      },
+    )
+  where
+    still : (home : ℕ → ℕ) (s t : State) → (v : Value) → IsThere home s v → IsThere home (with_current (Failed e p) s) v
+    still home s t (values.Int i) h = tt
+    still home s t (values.Object o) h = h
+    still home s t (values.Block b k) h = h
+
+gated_by : (s : State) (a : Activation) (built : Bool) → IsWellFormed s → IsWellFormed (if built then step s else silent (not_built s a)).state
+gated_by s a true formed = steps_form s formed
+gated_by s a false formed = failed_formed s _ _ formed
+
+gated_from : (s : State) (x : Option Activity) → IsWellFormed s → IsWellFormed (gated_at s x).state
+gated_from s None formed = steps_form s formed
+gated_from s (Some (Running [])) formed = steps_form s formed
+gated_from s (Some (Running (a ∷ older))) formed = gated_by s a (is_built (here_of s a older) (node_at (body_of s a.body) a.next)) formed
+gated_from s (Some (Answered v)) formed = steps_form s formed
+gated_from s (Some (Failed e p)) formed = steps_form s formed
+
+pub gated_forms : (s : State) → IsWellFormed s → IsWellFormed (gated_step s).state
+unfolding gated_step
+gated_forms s formed = gated_from s (slice_get s.activities s.current) formed
+
+runs_form : (n : ℕ) (r : Reached) → IsWellFormed r.state → IsWellFormed (gated_run n r).state
+unfolding gated_run
+runs_form zero r formed = formed
+runs_form (suc n) r formed = runs_form n (gated_onward r) (gated_forms r.state formed)
+
+pub run_forms : (n : ℕ) (s t : State) → gated_run n (silent s) ≡ silent t → IsWellFormed s → IsWellFormed t
+run_forms n s t e formed = subst (λ (r : Reached). IsWellFormed r.state) e (runs_form n (silent s) formed)

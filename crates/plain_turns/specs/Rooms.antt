@@ -1,0 +1,20 @@
+-- Room for the units of all bodies.
+use Rattle.std.specs.Prelude.{◌≡◌, ℕ, zero, suc, ◌+◌, ◌*◌, ◌≤◌, List, [], ◌∷◌, length}
+use Rattle.self_terms.specs.declared.bodies.Body.{Body}
+use Rattle.plain_runs.specs.Host.{Host}
+
+-- the most words that the unit of a method without block literals takes
+abbrev pub most_words : Body → ℕ
+most_words x = 17 * length x.nodes + 16 * (length x.arguments + length x.locals) + 64
+
+-- those of the bodies that have no unit yet
+abbrev pub unput : List ℕ → List Body → ℕ
+unput [] xs = 0
+unput (e ∷ es) [] = 0
+unput (zero ∷ es) (x ∷ xs) = most_words x + unput es xs
+unput (suc at ∷ es) (x ∷ xs) = unput es xs
+
+-- There is room in the code region for all of them behind the units that stand; each body has its entry.
+pub record HasRoom (h : Host) : Type 0 where
+  pub each : length h.entries ≡ length h.bodies
+  pub left : length h.points + unput h.entries h.bodies ≤ 8388352

@@ -1,0 +1,130 @@
+-- Turns: what each service makes of a run.
+use Rattle.std.specs.Prelude.{◌≡◌, ◌≢◌, ◌⊎◌, ℕ, suc, ◌+◌, ◌-◌, ◌*◌, ◌^◌, ◌<◌, ◌≤◌, true, false, Option, Some, None, length, slice_get}
+use Rattle.self_terms.specs.declared.errors.ErrorName.{ErrorName}
+use Rattle.self_terms.specs.declared.errors.ErrorName.TheVariants as errors
+use Rattle.self_terms.specs.declared.nodes.Node.{Node}
+use Rattle.self_terms.specs.declared.nodes.Selector.{Selector}
+use Rattle.self_terms.specs.declared.values.BodyId.{BodyId}
+use Rattle.object_maps.specs.declared.maps.SlotKind.TheVariants.{Assign, Field, Method}
+use Rattle.sparc_machine.specs.State.{MachineState}
+use Rattle.sparc_store.specs.Words.{Words, HasWord}
+use Rattle.slot_lookup.specs.declared.sends.Found.TheVariants.{One}
+use Rattle.source_model.specs.Soundness.{body_in, HasBody}
+use Rattle.source_model.specs.State.{State}
+use Rattle.plain_words.specs.Translating.{CanTranslate}
+use Rattle.plain_runs.specs.Host.{Host}
+use Rattle.plain_runs.specs.declared.status.Status.TheVariants.{Waiting}
+use Rattle.plain_runs.specs.Services.{data_answers, assigns, calls, with_unit, waits, ends, fails, next_unit}
+use Rattle.plain_runs.specs.Course.{with_machine}
+use Rattle.plain_words.specs.Units.{unit_code}
+use Rattle.plain_sends.specs.Found.{data_word}
+use Rattle.plain_sends.specs.Sends.{selector_of}
+use Rattle.plain_answers.specs.Found.{error_of}
+use Rattle.plain_answers.specs.Whole.{whole}
+use Rattle.plain_lookups.specs.Telling.{MayLook, start_of}
+use Rattle.plain_units.specs.Putting.{IsPut}
+use Rattle.plain_stretches.specs.Gate.{is_blockless}
+use Rattle.plain_stretches.specs.Runs.{RunsTo}
+use Rattle.plain_turns.specs.Asking.{count, body_here, node_here, place_here, found_here, behind_poll, goes_back}
+use Rattle.plain_turns.specs.Resting.{Rests, IsGoing, IsAtTrap, HasRun}
+
+-- A run begins: the current activity, which is at a poll, goes on to so many steps more.
+abbrev pub RunsBegin : Type 0
+RunsBegin = (h : Host) (s : State) (sp pc known : ℕ) → Rests h s → slice_get h.statuses h.current ≡ Some (Waiting sp pc known) → (goal cost : ℕ) → goal ≤ 1000000000 → IsGoing (goes_back 0 goal cost h) s (s.steps + goal)
+
+-- The machine's run comes to a trap, and no fewer steps are counted there.
+pub record Comes (h : Host) (from : State) (target most : ℕ) (g : IsGoing h from target) : Type 0 where
+  pub trap : ℕ
+  pub instructions : ℕ
+  pub to : MachineState
+  pub runs : RunsTo most instructions trap h.machine to
+  pub at : IsAtTrap (with_machine h to) trap from target
+  pub counts : g.state.steps + g.stretch.steps ≤ count (with_machine h to)
+
+abbrev pub RunsCome : Type 0
+RunsCome = (h : Host) (from : State) (target most : ℕ) (g : IsGoing h from target) → 2 ^ 40 ≤ most → Comes h from target most g
+
+-- What is so at each trap: there are these services alone; the current activity is one; and the counts are within the run.
+pub record AtTrap (h : Host) (trap target : ℕ) : Type 0 where
+  pub service : (trap ≡ 1) ⊎ (trap ≡ 2) ⊎ (trap ≡ 3) ⊎ (trap ≡ 4) ⊎ (trap ≡ 9)
+  pub running : h.current < length h.statuses
+  pub near : count h ≤ target
+  pub far : target ≤ count h + 1000000000
+  pub sums : h.cost + h.machine.regs 3 ≤ 4194304
+
+abbrev pub TrapsTell : Type 0
+TrapsTell = (h : Host) (trap : ℕ) (from : State) (target : ℕ) → IsAtTrap h trap from target → AtTrap h trap target
+
+-- Nothing is left of the goal; or the oldest activation has answered; or the node's service isn't built.
+abbrev pub GoalsEnd : Type 0
+GoalsEnd = (h : Host) (from : State) (target : ℕ) → IsAtTrap h 2 from target → (20 ≤ h.machine.pc) × ((goal cost : ℕ) → goal ≤ 1000000000 → HasRun (waits goal cost h) from target)
+
+abbrev pub AnswersEnd : Type 0
+AnswersEnd = (h : Host) (from : State) (target : ℕ) → IsAtTrap h 9 from target → (goal cost : ℕ) → goal ≤ 1000000000 → HasRun (ends goal cost h) from target
+
+abbrev pub LacksEnd : Type 0
+LacksEnd = (h : Host) (trap : ℕ) (from : State) (target : ℕ) → IsAtTrap h trap from target → (trap ≡ 3) ⊎ (trap ≡ 4) → (goal cost : ℕ) → goal ≤ 1000000000 → HasRun (fails goal cost errors.NotBuilt (place_here h) h) from target
+
+-- Messages.
+
+-- At the trap of a message: the machine stands in the words of a node that sends, of a body; the lookup may be made; and a step is left of the goal.
+pub record IsAsked (h : Host) (target room : ℕ) : Type 0 where
+  pub node : Node
+  pub selector : Selector
+  pub node_is : node_here h ≡ Some node
+  pub sends : selector_of node ≡ Some selector
+  pub body : HasBody h.bodies (body_here h)
+  pub may : MayLook h.maps h.machine.memory room (start_of h node)
+  pub holder : HasWord (h.machine.regs 14 + 104)
+  pub left : count h < target
+  pub back : behind_poll selector.args ≤ h.machine.pc
+  pub on : h.machine.npc + 4 < 2 ^ 32
+
+abbrev pub MessagesAsk : Type 0
+MessagesAsk = (h : Host) (from : State) (target room : ℕ) → (x : IsAtTrap h 1 from target) → length x.state.things ≤ room → IsAsked h target room
+
+-- room for all objects
+abbrev pub HasRoomFor : (h : Host) (from : State) (target room : ℕ) → IsAtTrap h 1 from target → Type 0
+HasRoomFor h from target room x = length x.state.things ≤ room
+
+abbrev pub DataTurns : Type 0
+DataTurns = (h : Host) (from : State) (target room : ℕ) → (x : IsAtTrap h 1 from target) → HasRoomFor h from target room x → (cost word : ℕ) → data_word (whole h) (found_here room h) ≡ Some word
+    → IsGoing (data_answers (target - count h - 1) cost word h) from target
+
+abbrev pub FieldsAreRead : Type 0
+FieldsAreRead = (h : Host) (from : State) (target room : ℕ) → (x : IsAtTrap h 1 from target) → HasRoomFor h from target room x → (holder place : ℕ) → (found_here room h ≡ One holder (Field place)) ⊎ (found_here room h ≡ One holder (Assign place)) → HasWord (holder + 7 + 4 * place)
+
+abbrev pub AssignmentsTurn : Type 0
+AssignmentsTurn = (h : Host) (from : State) (target room : ℕ) → (x : IsAtTrap h 1 from target) → HasRoomFor h from target room x → (cost holder place : ℕ) → found_here room h ≡ One holder (Assign place)
+    → IsGoing (assigns (target - count h - 1) cost (holder + 7 + 4 * place) h) from target
+
+abbrev pub MissesEnd : Type 0
+MissesEnd = (h : Host) (from : State) (target room : ℕ) → (x : IsAtTrap h 1 from target) → HasRoomFor h from target room x → (goal cost : ℕ) (e : ErrorName) → goal ≤ 1000000000 → error_of (found_here room h) ≡ Some e
+    → HasRun (fails goal cost e (place_here h) h) from target
+
+-- A method that was found has a body; where that has no unit and is built, one is put behind the others, and the node's words begin again.
+abbrev pub MethodsAreThere : Type 0
+MethodsAreThere = (h : Host) (from : State) (target room : ℕ) → (x : IsAtTrap h 1 from target) → HasRoomFor h from target room x → (holder : ℕ) (c : BodyId) → found_here room h ≡ One holder (Method c)
+    → HasBody h.bodies c.0 × CanTranslate (body_in h.bodies c.0) × ((at : ℕ) × (slice_get h.entries (c.0 - 1) ≡ Some at) × (at + 4 < 2 ^ 32))
+
+abbrev pub CallsTurn : Type 0
+CallsTurn = (h : Host) (from : State) (target room : ℕ) → (x : IsAtTrap h 1 from target) → HasRoomFor h from target room x → (cost holder at : ℕ) (c : BodyId) → found_here room h ≡ One holder (Method c)
+    → slice_get h.entries (c.0 - 1) ≡ Some at → at ≢ 0 → h.machine.regs 4 < 4096 → IsGoing (calls (target - count h) cost at holder h) from target
+
+abbrev pub OverflowsEnd : Type 0
+OverflowsEnd = (h : Host) (from : State) (target room : ℕ) → (x : IsAtTrap h 1 from target) → HasRoomFor h from target room x → (goal cost holder at : ℕ) (c : BodyId) → goal ≤ 1000000000 → found_here room h ≡ One holder (Method c)
+    → slice_get h.entries (c.0 - 1) ≡ Some at → at ≢ 0 → 4096 ≤ h.machine.regs 4 → HasRun (fails goal cost errors.StackOverflow (place_here h) h) from target
+
+abbrev pub UnbuiltEnd : Type 0
+UnbuiltEnd = (h : Host) (from : State) (target room : ℕ) → (x : IsAtTrap h 1 from target) → HasRoomFor h from target room x → (goal cost holder : ℕ) (c : BodyId) → goal ≤ 1000000000 → found_here room h ≡ One holder (Method c)
+    → is_blockless (body_in h.bodies c.0) ≡ false → HasRun (fails goal cost errors.NotBuilt (place_here h) h) from target
+
+-- there is room for the unit
+abbrev pub UnitsFit : Type 0
+UnitsFit = (h : Host) (from : State) (target room : ℕ) → (x : IsAtTrap h 1 from target) → HasRoomFor h from target room x → (holder : ℕ) (c : BodyId) → found_here room h ≡ One holder (Method c)
+    → slice_get h.entries (c.0 - 1) ≡ Some 0 → is_blockless (body_in h.bodies c.0) ≡ true → next_unit h + 4 * length (unit_code h.references (body_in h.bodies c.0)) ≤ 0x12000000
+
+abbrev pub UnitsTurn : Type 0
+UnitsTurn = (h : Host) (from : State) (target room : ℕ) → (x : IsAtTrap h 1 from target) → HasRoomFor h from target room x → (a : IsAsked h target room) → (cost holder : ℕ) (c : BodyId) → found_here room h ≡ One holder (Method c)
+    → slice_get h.entries (c.0 - 1) ≡ Some 0 → is_blockless (body_in h.bodies c.0) ≡ true → (memory : Words) → IsPut h c.0 memory
+    → IsGoing (goes_back (behind_poll a.selector.args) (target - count h) cost (with_unit c.0 memory h)) from target
