@@ -44,11 +44,11 @@ pub record Comes (h : Host) (from : State) (target most : ℕ) (g : IsGoing h fr
 abbrev pub RunsCome : Type 0
 RunsCome = (h : Host) (from : State) (target most : ℕ) (g : IsGoing h from target) → 2 ^ 40 ≤ most → Comes h from target most g
 
--- What is so at each trap: there are these services alone; the current activity is one; and the counts are within the run.
+-- What is so at each trap: there are these services alone; the current activity is one; no more is left than a run may ask for, and the plain cost
+-- is within its limit.
 pub record AtTrap (h : Host) (trap target : ℕ) : Type 0 where
   pub service : (trap ≡ 1) ⊎ (trap ≡ 2) ⊎ (trap ≡ 3) ⊎ (trap ≡ 4) ⊎ (trap ≡ 9)
   pub running : h.current < length h.statuses
-  pub near : count h ≤ target
   pub far : target ≤ count h + 1000000000
   pub sums : h.cost + h.machine.regs 3 ≤ 4194304
 
