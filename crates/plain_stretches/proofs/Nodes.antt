@@ -132,8 +132,7 @@ performs z h s x can b n name args implied handler r (ByService unsummed at stan
         older = y.older;
         here = y.at.here;
         unbuilt = gate_is s y.young y.older node false y.at.here y.at.node_is (unsummed y.young y.older y.at.here);
-        word = length words - 2;
-        inside = omega (arith, some);
+        some = some;
         moved = (let P : ℕ → Type 0 = λ p. Moved h.machine a.to p h.machine.memory (h.machine.regs 2) in subst P here a.moved);
       });
     })
@@ -165,7 +164,7 @@ node_done z h s x can b n nodes.NonLocal r plain own short =
     let some = (can.runs b).takes n nodes.NonLocal r.node_is in
     let y = at_node_of z h s b n nodes.NonLocal x.stands r in
     let a = non_local_asks h.machine h.machine.pc (frame_words body) (frame_locals body) (k - 1) (ready_at h b n nodes.NonLocal r can.left) (omega (arith, room, some, depth_is body.nodes n)) in
-    Asks (record { instructions = a.instructions; few = omega (arith, a.few); to = a.to; goes = a.goes; trap = 4; stands = a.trap; halts = AtLack (record { service = refl; can = can; sender = y.young; older = y.older; here = y.at.here; unbuilt = gate_is s y.young y.older nodes.NonLocal false y.at.here y.at.node_is refl; word = 1; inside = omega arith; moved = a.moved }) })
+    Asks (record { instructions = a.instructions; few = omega (arith, a.few); to = a.to; goes = a.goes; trap = 4; stands = a.trap; halts = AtLack (record { service = refl; can = can; sender = y.young; older = y.older; here = y.at.here; unbuilt = gate_is s y.young y.older nodes.NonLocal false y.at.here y.at.node_is refl; some = omega arith; moved = a.moved }) })
 node_done z h s x can b n nodes.End r plain own short =
     answers z h s (on_of z h s x b n nodes.End r) can (simply z h s x b n nodes.End r refl) r.view.older (λ o e. end_steps z h s b n o x.stands r can plain.context e) (λ e. last_end z h s b n x.stands r can plain.context e)
 

@@ -44,6 +44,11 @@ lacking (nodes.Prim name args implied handler) = Some 3
 lacking nodes.NonLocal = Some 4
 lacking _ = None
 
+-- and which of its words behind the poll, of so many, asks for it: behind that of a primitive its answer is pended
+abbrev pub asking : Node → ℕ → ℕ
+asking (nodes.Prim name args implied handler) words = words - 2
+asking _ words = words - 1
+
 -- A node that sends has led to service 1.
 pub record Sends (z : Sense) (h : Host) (s : State) (on : IsOn z h s) (to : MachineState) : Type 0 where
   pub can : CanGo h
@@ -67,9 +72,8 @@ pub record Lacks (z : Sense) (h : Host) (s : State) (on : IsOn z h s) (trap : �
   pub older : List Activation
   pub here : slice_get s.activities s.current ≡ Some (Running (sender ∷ older))
   pub unbuilt : gated_step s ≡ silent (not_built s sender)
-  pub word : ℕ
-  pub inside : word + 1 ≤ length (code_at h on.body on.number on.node)
-  pub moved : Moved h.machine to (h.machine.pc + 24 + 4 * word) h.machine.memory (h.machine.regs 2)
+  pub some : 2 ≤ length (code_at h on.body on.number on.node)
+  pub moved : Moved h.machine to (h.machine.pc + 24 + 4 * asking on.node (length (code_at h on.body on.number on.node))) h.machine.memory (h.machine.regs 2)
 
 -- Why the machine of a host, from a node's poll, has come to a trap of a number: nothing was left of the goal, or else for its node.
 pub data Halts (z : Sense) (h : Host) (s : State) (on : IsOn z h s) (trap : ℕ) (to : MachineState) : Type 0 where

@@ -1,3 +1,5 @@
 pub mod Formed
 pub mod Back
 pub mod Running
+pub mod Places
+pub mod Ending

@@ -15,18 +15,23 @@ use Rattle.plain_lookups.specs.Telling.{found_by}
 abbrev pub count : Host → ℕ
 count h = h.steps + h.machine.regs 2
 
--- the body and the number of the node in whose words the machine stands, that node, and its place
+-- The body and the number of the node in whose words the machine stands, as the word behind the trap says, where the answer is pended; that
+-- node, and its place.
 abbrev pub body_here : Host → ℕ
-body_here h = (point_at h h.machine.pc).body
+body_here h = (point_at h (h.machine.pc + 4)).body
 
 abbrev pub number_here : Host → ℕ
-number_here h = (point_at h h.machine.pc).node
+number_here h = (point_at h (h.machine.pc + 4)).node
 
 abbrev pub node_here : Host → Option Node
 node_here h = slice_get (body_in h.bodies (body_here h)).nodes (number_here h)
 
 abbrev pub place_here : Host → Place
 place_here h = place_at (body_in h.bodies (body_here h)) (number_here h)
+
+-- the place of a node that returns from a home method, as the last word of its poll says
+abbrev pub place_before : Host → Place
+place_before h = let p = point_at h (h.machine.pc - 8) in place_at (body_in h.bodies p.body) p.node
 
 -- what the message of a node meets, as a lookup over memory finds it that has room for so many objects
 abbrev pub found_for : ℕ → Host → Option Node → Found

@@ -17,7 +17,7 @@ use Rattle.plain_answers.specs.Found.{error_of}
 use Rattle.plain_answers.specs.Whole.{whole}
 use Rattle.plain_units.specs.Putting.{IsPut}
 use Rattle.plain_stretches.specs.Gate.{is_blockless}
-use Rattle.plain_turns.specs.Asking.{place_here, found_here, goes_back}
+use Rattle.plain_turns.specs.Asking.{place_here, place_before, found_here, goes_back}
 
 -- A service: 2 at a poll where a run begins or ends; 1 at a message, by what a lookup finds; 9 where the oldest activation has answered; and what
 -- isn't built.
@@ -30,7 +30,9 @@ pub data Serves (room : ℕ) (h : Host) : Host → Type 0 where
   Puts : IsTrap 1 h.machine → (goal cost holder back : ℕ) (c : BodyId) (memory : Words) → found_here room h ≡ One holder (Method c) → IsPut h c.0 memory → Serves room h (goes_back back goal cost (with_unit c.0 memory h))
   Misses : IsTrap 1 h.machine → (goal cost : ℕ) (e : ErrorName) → error_of (found_here room h) ≡ Some e → Serves room h (fails goal cost e (place_here h) h)
   Overflows : IsTrap 1 h.machine → (goal cost holder : ℕ) (c : BodyId) → found_here room h ≡ One holder (Method c) → 4096 ≤ h.machine.regs 4 → Serves room h (fails goal cost errors.StackOverflow (place_here h) h)
-  Lacks : (trap goal cost : ℕ) → IsTrap trap h.machine → Serves room h (fails goal cost errors.NotBuilt (place_here h) h)
+  Unbuilt : IsTrap 1 h.machine → (goal cost holder : ℕ) (c : BodyId) → found_here room h ≡ One holder (Method c) → is_blockless (body_in h.bodies c.0) ≡ false → Serves room h (fails goal cost errors.NotBuilt (place_here h) h)
+  Performs : IsTrap 3 h.machine → (goal cost : ℕ) → Serves room h (fails goal cost errors.NotBuilt (place_here h) h)
+  Returns : IsTrap 4 h.machine → (goal cost : ℕ) → Serves room h (fails goal cost errors.NotBuilt (place_before h) h)
   Ends : IsTrap 9 h.machine → (goal cost : ℕ) → Serves room h (ends goal cost h)
 
 -- So many instructions and services lead from one to the other.

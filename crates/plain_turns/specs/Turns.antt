@@ -25,7 +25,7 @@ use Rattle.plain_lookups.specs.Telling.{MayLook, start_of}
 use Rattle.plain_units.specs.Putting.{IsPut}
 use Rattle.plain_stretches.specs.Gate.{is_blockless}
 use Rattle.plain_stretches.specs.Runs.{RunsTo}
-use Rattle.plain_turns.specs.Asking.{count, body_here, node_here, place_here, found_here, behind_poll, goes_back}
+use Rattle.plain_turns.specs.Asking.{count, body_here, node_here, place_here, place_before, found_here, behind_poll, goes_back}
 use Rattle.plain_turns.specs.Resting.{Rests, IsGoing, IsAtTrap, HasRun}
 
 -- A run begins: the current activity, which is at a poll, goes on to so many steps more.
@@ -62,8 +62,11 @@ GoalsEnd = (h : Host) (from : State) (target : ℕ) → IsAtTrap h 2 from target
 abbrev pub AnswersEnd : Type 0
 AnswersEnd = (h : Host) (from : State) (target : ℕ) → IsAtTrap h 9 from target → (goal cost : ℕ) → goal ≤ 1000000000 → HasRun (ends goal cost h) from target
 
-abbrev pub LacksEnd : Type 0
-LacksEnd = (h : Host) (trap : ℕ) (from : State) (target : ℕ) → IsAtTrap h trap from target → (trap ≡ 3) ⊎ (trap ≡ 4) → (goal cost : ℕ) → goal ≤ 1000000000 → HasRun (fails goal cost errors.NotBuilt (place_here h) h) from target
+abbrev pub PrimitivesEnd : Type 0
+PrimitivesEnd = (h : Host) (from : State) (target : ℕ) → IsAtTrap h 3 from target → (goal cost : ℕ) → goal ≤ 1000000000 → HasRun (fails goal cost errors.NotBuilt (place_here h) h) from target
+
+abbrev pub ReturnsEnd : Type 0
+ReturnsEnd = (h : Host) (from : State) (target : ℕ) → IsAtTrap h 4 from target → (goal cost : ℕ) → goal ≤ 1000000000 → HasRun (fails goal cost errors.NotBuilt (place_before h) h) from target
 
 -- Messages.
 

@@ -1,5 +1,5 @@
 // Laws of turns.
-ghost use Rattle.plain_turns.specs.Turns.{AnswersEnd, AssignmentsTurn, CallsTurn, DataTurns, FieldsAreRead, GoalsEnd, LacksEnd, MessagesAsk, MethodsAreThere, MissesEnd, OverflowsEnd, RunsBegin, RunsCome, TrapsTell, UnbuiltEnd, UnitsFit, UnitsTurn};
+ghost use Rattle.plain_turns.specs.Turns.{AnswersEnd, AssignmentsTurn, CallsTurn, DataTurns, FieldsAreRead, GoalsEnd, MessagesAsk, MethodsAreThere, MissesEnd, OverflowsEnd, PrimitivesEnd, ReturnsEnd, RunsBegin, RunsCome, TrapsTell, UnbuiltEnd, UnitsFit, UnitsTurn};
 
 /// A law: a run begins at the poll at which the current activity rests.
 pub fn runs_begin()
@@ -16,7 +16,8 @@ pub fn runs_come()
 pub fn runs_end()
     ensures goal { GoalsEnd }
     ensures answer { AnswersEnd }
-    ensures lack { LacksEnd }
+    ensures primitive { PrimitivesEnd }
+    ensures home { ReturnsEnd }
 {}
 
 /// A law: a message leads on where data, an assignment slot or a method with a unit answers it, and from its beginning where a unit is put; it ends
