@@ -1,23 +1,28 @@
 -- Errors end the current activity.
-use Rattle.std.proofs.Common.{◌≡◌, ◌≢◌, ℕ, zero, suc, ◌+◌, ◌<◌, ◌==◌, refl, ◌∙◌, ap, sym, subst, arith}
-use Rattle.std.specs.Prelude.{Bool, false, if◌then◌else◌, List, [], ◌∷◌, length, Some, slice_get, slice_set, All}
+use Rattle.std.proofs.Common.{◌≡◌, ◌≢◌, ℕ, zero, suc, ◌+◌, ◌<◌, ◌≤◌, ◌==◌, refl, ◌∙◌, ap, sym, subst, arith}
+use Rattle.std.specs.Prelude.{Bool, false, if◌then◌else◌, List, [], ◌∷◌, length, Some, Err, slice_get, slice_set, All}
 use Rattle.std.proofs.lemmas.Grind.{common_steps}
 use Rattle.self_terms.specs.declared.errors.ErrorName.{ErrorName}
+use Rattle.self_terms.specs.declared.errors.ErrorName.TheVariants as errors
+use Rattle.self_terms.specs.declared.nodes.Node.{Node}
+use Rattle.self_terms.specs.declared.nodes.Selector.{Selector}
+use Rattle.self_terms.specs.declared.values.BodyId.{BodyId}
 use Rattle.self_terms.specs.declared.nodes.Place.{Place}
 use Rattle.self_terms.specs.Depths.{depth}
 use Rattle.sparc_store.specs.Words.{Words}
 use Rattle.sparc_store.specs.Windows.{Frame as Window, saved_at, frame_before, but_first}
 use Rattle.sparc_machine.specs.State.{MachineState}
-use Rattle.source_model.specs.Messages.{body_of}
+use Rattle.source_model.specs.declared.objects.Content.TheVariants.{Method}
+use Rattle.source_model.specs.Messages.{Holds, body_of}
 use Rattle.source_model.specs.Soundness.{body_in}
 use Rattle.source_model.specs.State.{Activation, Running, Failed as Ended_by, State, with_current}
-use Rattle.source_model.specs.Step.{node_at, place_at, place_of}
+use Rattle.source_model.specs.Step.{done, node_at, place_at, place_of}
 use Rattle.heap_cells.specs.Source.{Plain as without}
 use Rattle.frame_walk.specs.Places.{Descriptor, Frame}
 use Rattle.frame_walk.specs.Raw.{Raw, Going, Failed as Failure}
 use Rattle.frame_walk.specs.Walk.{activations, AreLaid}
 use Rattle.raw_steps.specs.Ends.{Ends}
-use Rattle.raw_steps.specs.Sends.{begins, method_entry, at_node}
+use Rattle.raw_steps.specs.Sends.{here_of, begins, method_entry, at_node}
 use Rattle.raw_steps.specs.Meeting.{HasCore}
 use Rattle.raw_steps.specs.Stands.{Sense, Stands, IsAt, AreActivations, makes_blocks}
 use Rattle.raw_steps.proofs.Failing.{fails_follow, ends_follow}
@@ -31,11 +36,12 @@ use Rattle.plain_runs.specs.declared.status.Status.{Status}
 use Rattle.plain_runs.specs.declared.status.Status.TheVariants.{Waiting, Answered, Failed}
 use Rattle.plain_runs.specs.Host.{Host, seen, waiting, thread_of, threads_from, raw_of, descriptor_at, heap_words}
 use Rattle.plain_runs.specs.Services.{failed}
-use Rattle.plain_runs.specs.Sound.{IsWindow, IsCaller, callers_of, entry_frame, ending_stub}
+use Rattle.plain_runs.specs.Sound.{RunsAt, IsWindow, IsCaller, callers_of, entry_frame, ending_stub}
 use Rattle.plain_runs.specs.Course.{with_machine}
 use Rattle.plain_runs.proofs.Pointed.{call_descriptor}
 use Rattle.plain_runs.proofs.Popping.{hosted_same}
 use Rattle.plain_steps.specs.Steps.{StandsFor}
+use Rattle.plain_sends.specs.Sends.{IsSent, met_of}
 use Rattle.plain_steps.proofs.Answering.{no_context, wants_none}
 use Rattle.plain_steps.proofs.Here.{at_node_of}
 use Rattle.plain_steps.proofs.Words.{stands_after}
@@ -196,8 +202,10 @@ as_many wants z at (a ∷ older) (y ∷ ys) are = ap suc (as_many wants z at old
 as_many wants z at [] (y ∷ ys) are = absurd are
 as_many wants z at (a ∷ older) [] are = absurd are
 
-pub overflow_fails : OverflowFails
-overflow_fails z h s b n node sel r q f can plain o c met inside many =
+-- the step of a send that would make one activation too many
+pub overflow_is : (z : Sense) (h : Host) (s : State) (b n : ℕ) (node : Node) (sel : Selector) (r : RunsAt h b n node) (q : IsSent z h s b n node sel r) → StandsFor z h s → (o : ℕ) (c : BodyId) → met_of node s q.sender ≡ Holds o (Method c) → o < length s.things → 4096 ≤ q.asks.to.regs 4
+    → done (here_of s q.sender q.older) node ≡ Err errors.StackOverflow
+overflow_is z h s b n node sel r q f o c met inside many =
     let m = h.machine in
     let v = viewed m b n (frame_locals (body_in h.bodies b)) (depth (body_in h.bodies b).nodes n) in
     let callers = callers_of h r.view.older in
@@ -205,5 +213,7 @@ overflow_fails z h s b n node sel r q f can plain o c met inside many =
     let long : length q.older ≡ r.view.older = as_many (makes_blocks s) z s.current q.older callers all.2 ∙ seen_long (descriptor_at h) m.memory r.view.older (m.regs 30) (frame_before m.memory (m.regs 30) m.older) (m.regs 31 + 8) (but_first m.older) in
     let counted : q.asks.to.regs 4 ≡ suc r.view.older = q.asks.moved.kept 4 refl ∙ r.view.count in
     let enters = method_enters (raw_of h) s z f.stands q.sender q.older v callers node q.is_at q.message q.words sel.name.0 _ q.send o c met inside in
-    errors_fail z h s b n node f r can plain q.sender q.older q.is_at.here _
-    (enters ∙ overflows (begins s (method_entry q.message o c)) (at_node q.sender.next q.message.rest q.sender ∷ q.older) s (omega (arith, many, counted, long))) q.asks.to q.at q.asks.moved
+    enters ∙ overflows (begins s (method_entry q.message o c)) (at_node q.sender.next q.message.rest q.sender ∷ q.older) s (omega (arith, many, counted, long))
+
+pub overflow_fails : OverflowFails
+overflow_fails z h s b n node sel r q f can plain o c met inside many = errors_fail z h s b n node f r can plain q.sender q.older q.is_at.here _ (overflow_is z h s b n node sel r q f o c met inside many) q.asks.to q.at q.asks.moved

@@ -3,3 +3,4 @@ pub mod Back
 pub mod Running
 pub mod Places
 pub mod Ending
+pub mod Asked

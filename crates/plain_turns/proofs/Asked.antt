@@ -1,0 +1,225 @@
+-- At the trap of a message.
+use Rattle.std.proofs.Common.{◌≡◌, ◌≢◌, ℕ, zero, suc, ◌+◌, ◌-◌, ◌*◌, ◌<◌, ◌≤◌, refl, ◌∙◌, ap, sym, subst, arith, inl, inr, length-append}
+use Rattle.std.specs.Prelude.{◌⊎◌, ◌&&◌, not, is_some, Bool, true, false, if◌then◌else◌, List, [], ◌∷◌, ◌++◌, length, Option, Some, None, Err, slice_get}
+use Rattle.std.proofs.lemmas.Option.{same_Some, none-some}
+use Rattle.self_terms.specs.declared.bodies.Body.{Body}
+use Rattle.self_terms.specs.declared.errors.ErrorName.{ErrorName}
+use Rattle.self_terms.specs.declared.errors.ErrorName.TheVariants as errors
+use Rattle.self_terms.specs.declared.names.Name.{Name}
+use Rattle.self_terms.specs.declared.nodes.Node.{Node}
+use Rattle.self_terms.specs.declared.nodes.Node.TheVariants as nodes
+use Rattle.self_terms.specs.declared.nodes.Place.{Place}
+use Rattle.self_terms.specs.declared.nodes.Selector.{Selector}
+use Rattle.self_terms.specs.declared.values.BodyId.{BodyId}
+use Rattle.object_maps.specs.declared.maps.SlotKind.{SlotKind}
+use Rattle.object_maps.specs.declared.maps.SlotKind.TheVariants.{Constant, Parent, Field, Assign, Method as MethodSlot}
+use Rattle.slot_lookup.specs.declared.sends.Found.{Found}
+use Rattle.slot_lookup.specs.declared.sends.Found.TheVariants.{NotUnderstood, One, Ambiguous}
+use Rattle.sparc_machine.specs.State.{MachineState}
+use Rattle.sparc_store.specs.Words.{Words, HasWord, word_at}
+use Rattle.source_model.specs.declared.objects.Content.TheVariants.{Method}
+use Rattle.source_model.specs.Messages.{Met, Missing, Holds, body_of}
+use Rattle.source_model.specs.Sends.{Here}
+use Rattle.source_model.specs.Soundness.{body_in, HasBody, Accepts, BlockAccepts, MetAccepts}
+use Rattle.source_model.specs.State.{Activation, Activity, Running, Failed as Ended_by, State, silent, with_current}
+use Rattle.source_model.specs.Step.{done, settled, node_at, place_of, step}
+use Rattle.raw_steps.specs.Sends.{here_of}
+use Rattle.raw_steps.specs.Stands.{Sense}
+use Rattle.raw_steps.proofs.Nexts.{step_at}
+use Rattle.sparc_insn.specs.declared.insn.Insn.{Insn}
+use Rattle.sparc_insn.specs.declared.insn.Insn.TheVariants.{Trap}
+use Rattle.sparc_machine.specs.Alu.{add}
+use Rattle.self_terms.specs.Depths.{depth_from}
+use Rattle.plain_words.specs.Code.{poll, arguments_code, handed_code, answered_code}
+use Rattle.plain_words.specs.Moves.{Moved}
+use Rattle.plain_words.specs.Translating.{IsShort, CanTranslate}
+use Rattle.plain_words.specs.Units.{owns_context, frame_locals, frame_words}
+use Rattle.plain_words.proofs.Placing.{placed}
+use Rattle.plain_runs.specs.Host.{Host, raw_of}
+use Rattle.plain_runs.specs.Units.{node_offset}
+use Rattle.plain_runs.specs.Course.{with_machine, CanGo, code_at}
+use Rattle.plain_runs.proofs.Pointed.{next_offset}
+use Rattle.plain_sends.specs.Found.{data_word}
+use Rattle.plain_sends.specs.Sends.{selector_of, met_of, IsSent, IsData}
+use Rattle.plain_answers.specs.Found.{IsMethod, error_of}
+use Rattle.plain_answers.specs.Whole.{whole}
+use Rattle.plain_lookups.specs.Telling.{MayLook, start_of, begins_at, found_by, IsEvaluated, FoundTells, IsFound}
+use Rattle.plain_lookups.proofs.Telling.{founds_tell}
+use Rattle.plain_stretches.specs.Gate.{is_blockless, may_enter, is_built, not_built, gated_step}
+use Rattle.plain_stretches.specs.Standing.{IsOn, left_of}
+use Rattle.plain_stretches.specs.Stretches.{Halts, AtGoal, AtSend, AtEnd, AtLack, Sends, HasNoBlocks}
+use Rattle.plain_stretches.proofs.Gated.{gate_is}
+use Rattle.plain_turns.specs.Asking.{count, body_here, number_here, node_here, place_here, found_for, found_here, behind_poll}
+use Rattle.plain_turns.specs.Resting.{IsAtTrap}
+use Rattle.plain_turns.specs.Turns.{IsAsked, MessagesAsk, HasRoomFor, FieldsAreRead}
+use Rattle.plain_turns.proofs.Places.{Points, node_points, sent_points, sent_place}
+use Rattle.plain_turns.proofs.Running.{lacks_is}
+
+-- a node that sends has led there
+sends_at : (h : Host) (trap : ℕ) (from : State) (target : ℕ) → (x : IsAtTrap h trap from target) → trap ≡ 1 → Halts x.sense (with_machine h x.last) x.state x.on trap h.machine → Sends x.sense (with_machine h x.last) x.state x.on h.machine
+sends_at h trap from target x one (AtGoal e none w) = absurd (omega (arith, e, one))
+sends_at h trap from target x one (AtSend e q) = q
+sends_at h trap from target x one (AtEnd e q) = absurd (omega (arith, e, one))
+sends_at h trap from target x one (AtLack q) = elim (lacks_is x.on.node trap q.service) [ inl e ↦ absurd (omega (arith, e, one)) | inr e ↦ absurd (omega (arith, e, one)) ]
+
+-- a message has at most five arguments
+few_arguments : (node : Node) (sel : Selector) → selector_of node ≡ Some sel → IsShort 64 node → sel.args ≤ 5
+few_arguments (nodes.Send y) sel e short = let same : y ≡ sel = same_Some y sel e in omega (arith, ap (λ (q : Selector). q.args) same, short)
+few_arguments (nodes.SelfSend y) sel e short = let same : y ≡ sel = same_Some y sel e in omega (arith, ap (λ (q : Selector). q.args) same, short)
+few_arguments (nodes.Resend y) sel e short = let same : y ≡ sel = same_Some y sel e in omega (arith, ap (λ (q : Selector). q.args) same, short)
+few_arguments (nodes.Directed p y) sel e short = let same : y ≡ sel = same_Some y sel e in omega (arith, ap (λ (q : Selector). q.args) same, short)
+few_arguments _ sel e short = absurd (none-some sel e)
+
+-- a message is built, but for what it would enter
+pub sent_built : (h : Here) (node : Node) (sel : Selector) → selector_of node ≡ Some sel → is_built h node ≡ may_enter h.state (met_of node h.state h.young)
+sent_built h (nodes.Prim name args implied handler) sel e = absurd (none-some sel e)
+sent_built h nodes.NonLocal sel e = absurd (none-some sel e)
+sent_built h node sel e = refl
+
+-- how many words a message takes
+arguments_long : (to locals k n : ℕ) → length (arguments_code to locals k n) ≡ n
+arguments_long to locals k zero = refl
+arguments_long to locals k (suc n) = ap suc (arguments_long (to + 1) locals (k + 1) n)
+
+handed_long : (implied : Bool) (locals k n : ℕ) → length (handed_code implied locals k n) ≡ suc n
+handed_long true locals k n = ap suc (arguments_long 9 locals k n)
+handed_long false locals k n = ap suc (arguments_long 9 locals (k + 1) n)
+
+trap_long : (implied : Bool) (locals k n : ℕ) (last : List Insn) → length last ≡ 1 → length ((handed_code implied locals k n ++ (Trap 1 ∷ [])) ++ last) ≡ n + 3
+trap_long implied locals k n last one = omega (arith, length-append (handed_code implied locals k n ++ (Trap 1 ∷ [])) last, length-append (handed_code implied locals k n) (Trap 1 ∷ []), handed_long implied locals k n, one)
+
+sent_long : (h : Host) (b n : ℕ) (node : Node) (sel : Selector) → selector_of node ≡ Some sel → length (code_at h b n node) ≡ sel.args + 3
+sent_long h b n (nodes.Send y) sel e =
+    let locals = frame_locals (body_in h.bodies b) in
+    let k = depth_from 0 (body_in h.bodies b).nodes n in
+    let first = k - (y.args + 1) in
+    trap_long false locals first y.args (answered_code locals first) refl ∙ ap (λ (q : Selector). q.args + 3) (same_Some y sel e)
+sent_long h b n (nodes.SelfSend y) sel e =
+    let locals = frame_locals (body_in h.bodies b) in
+    let first = depth_from 0 (body_in h.bodies b).nodes n - y.args in
+    trap_long true locals first y.args (answered_code locals first) refl ∙ ap (λ (q : Selector). q.args + 3) (same_Some y sel e)
+sent_long h b n (nodes.Resend y) sel e =
+    let locals = frame_locals (body_in h.bodies b) in
+    let first = depth_from 0 (body_in h.bodies b).nodes n - y.args in
+    trap_long true locals first y.args (answered_code locals first) refl ∙ ap (λ (q : Selector). q.args + 3) (same_Some y sel e)
+sent_long h b n (nodes.Directed p y) sel e =
+    let locals = frame_locals (body_in h.bodies b) in
+    let first = depth_from 0 (body_in h.bodies b).nodes n - y.args in
+    trap_long true locals first y.args (answered_code locals first) refl ∙ ap (λ (q : Selector). q.args + 3) (same_Some y sel e)
+sent_long h b n _ sel e = absurd (none-some sel e)
+
+-- What is known at the trap of a message.
+module _ (h : Host) (from : State) (target : ℕ) (x : IsAtTrap h 1 from target) where
+  abbrev pub at_poll : Host
+  at_poll = with_machine h x.last
+
+  abbrev pub b : ℕ
+  b = x.on.body
+
+  abbrev pub n : ℕ
+  n = x.on.number
+
+  pub sent : Sends x.sense at_poll x.state x.on h.machine
+  sent = sends_at h 1 from target x refl x.halts
+
+  -- nothing but scratch registers has changed since the poll
+  pub moved : Moved x.last h.machine (h.machine.pc) x.last.memory (x.last.regs 2)
+  moved =
+      let q = sent in
+      let P : MachineState → Type 0 = λ m. Moved x.last m m.pc x.last.memory (x.last.regs 2) in
+      let here : q.sent.at ≡ q.sent.asks.to.pc = sym q.sent.asks.moved.stands.here in
+      subst P (sym q.there) (let R : ℕ → Type 0 = λ p. Moved x.last q.sent.asks.to p x.last.memory (x.last.regs 2) in subst R here q.sent.asks.moved)
+
+  pub few : sent.selector.args ≤ 5
+  few = few_arguments x.on.node sent.selector sent.is ((x.on.sound.runs b).translates.short n x.on.node x.on.at.node_is)
+
+  pub node_is : node_here h ≡ Some x.on.node
+  node_is = node_points h b n (sent_points x.sense at_poll x.state x.on h.machine sent) ∙ x.on.at.node_is
+
+  pub body_is : body_here h ≡ b
+  body_is = (sent_points x.sense at_poll x.state x.on h.machine sent).body
+
+  pub place_is : place_of x.state sent.sent.sender ≡ place_here h
+  place_is = sent_place x.sense at_poll x.state x.on h.machine sent.sent.sender sent.sent.older sent.sent.is_at.here sent
+
+  -- the trap stands so far behind the poll
+  pub behind_is : h.machine.pc ≡ x.last.pc + behind_poll sent.selector.args
+  behind_is =
+      let q = sent.sent in
+      let node = x.on.node in
+      let y = body_in h.bodies b in
+      let words = code_at at_poll b n node in
+      let long : length words ≡ sent.selector.args + 3 = sent_long at_poll b n node sent.selector sent.is in
+      let whole_long : length (poll ++ words) ≡ 6 + length words = omega (arith, length-append poll words) in
+      let next : node_offset h.references y (suc n) ≡ node_offset h.references y n + length (poll ++ words) = next_offset h.references y n node x.on.at.node_is in
+      let next2 : node_offset h.references y (n + 1) ≡ node_offset h.references y (suc n) = ap (node_offset h.references y) (omega arith) in
+      let same : q.behind.at ≡ x.on.at.poll.at = same_Some q.behind.at x.on.at.poll.at (sym q.behind.unit.entry ∙ x.on.at.poll.unit.entry) in
+      let here : h.machine.pc ≡ q.at = ap (λ (m : MachineState). m.pc) sent.there ∙ q.asks.moved.stands.here in
+      omega (arith, here, long, whole_long, next, next2, same, q.behind.address, x.on.at.poll.address)
+
+  -- what was found, over the trap's own machine
+  module _ (room : ℕ) (le : length x.state.things ≤ room) where
+    pub looked : IsFound x.sense at_poll x.state b n x.on.node sent.selector x.on.at sent.sent room
+    looked = founds_tell x.sense at_poll x.state b n x.on.node sent.selector x.on.at sent.sent sent.is x.on.sound.stands sent.can few room le
+
+    pub found_is : found_here room h ≡ found_by room (with_machine at_poll sent.sent.asks.to) x.on.node
+    found_is = ap (found_for room h) node_is ∙ ap (λ m. found_by room (with_machine at_poll m) x.on.node) sent.there
+
+    pub tells_of : (f : Found) → found_here room h ≡ f → FoundTells x.sense at_poll x.state sent.sent.asks.to.memory (begins_at x.on.node sent.sent.sender) (sent.sent.asks.to.regs 8) sent.selector.name.0 f (met_of x.on.node x.state sent.sent.sender)
+    tells_of f e =
+        let P : Found → Type 0 = λ y. FoundTells x.sense at_poll x.state sent.sent.asks.to.memory (begins_at x.on.node sent.sent.sender) (sent.sent.asks.to.regs 8) sent.selector.name.0 y (met_of x.on.node x.state sent.sent.sender) in
+        subst P (sym found_is ∙ e) looked.tells
+
+  pub goal_left : 0 < left_of at_poll
+  goal_left = let some = sent.can.left in omega (arith, some)
+
+  pub counted_is : count h ≡ x.state.steps
+  counted_is =
+      let before : h.steps + x.last.regs 2 ≡ x.state.steps = x.on.sound.stands.stands.steps in
+      omega (arith, before, moved.counted)
+
+  -- the state's step behind the gate
+  pub entering : (built : Bool) → may_enter x.state (met_of x.on.node x.state sent.sent.sender) ≡ built → gated_step x.state ≡ (if built then step x.state else silent (not_built x.state sent.sent.sender))
+  entering built e =
+      gate_is x.state sent.sent.sender sent.sent.older x.on.node built sent.sent.is_at.here sent.sent.is_at.node_is (sent_built (here_of x.state sent.sent.sender sent.sent.older) x.on.node sent.selector sent.is ∙ e)
+
+  -- a step that is an error
+  pub error_step : (e : ErrorName) → done (here_of x.state sent.sent.sender sent.sent.older) x.on.node ≡ Err e → step x.state ≡ silent (with_current (Ended_by e (place_here h)) x.state)
+  error_step e err =
+      step_at x.state sent.sent.sender sent.sent.older x.on.node sent.sent.is_at.here sent.sent.is_at.node_is
+      ∙ ap (settled (here_of x.state sent.sent.sender sent.sent.older)) err
+      ∙ ap (λ p. silent (with_current (Ended_by e p) x.state)) place_is
+
+pub messages_ask : MessagesAsk
+messages_ask h from target room x le =
+    let q = sent h from target x in
+    let node = x.on.node in
+    let at = with_machine h x.last in
+    let v = x.on.at.view in
+    let looked1 = looked h from target x room le in
+    let room_is = (x.on.sound.runs x.on.body).room x.on.number in
+    let p = placed (x.last.regs 14) (frame_words (body_in h.bodies x.on.body)) 104 v.frame.place (omega arith) (omega (arith, room_is)) in
+    let same : h.machine.regs 14 ≡ x.last.regs 14 = (moved h from target x).kept 14 refl in
+    let here : add (x.last.regs 14) 104 ≡ h.machine.regs 14 + 104 = p.address ∙ ap (λ k. k + 104) (sym same) in
+    let low = q.sent.low in
+    let npc_is : h.machine.npc ≡ q.sent.at + 4 = ap (λ (m : MachineState). m.npc) q.there ∙ q.sent.asks.moved.stands.next in
+    let behind1 = behind_is h from target x in
+    record {
+      node = node;
+      selector = q.selector;
+      node_is = node_is h from target x;
+      sends = q.is;
+      body = subst (HasBody h.bodies) (sym (body_is h from target x)) (x.on.at.poll.unit.given, x.on.at.poll.unit.known);
+      may = (let P : MachineState → Type 0 = λ m. MayLook h.maps m.memory room (start_of (with_machine at m) node) in subst P (sym q.there) looked1.may);
+      holder = subst HasWord here p.has;
+      left = omega (arith, goal_left h from target x, counted_is h from target x, x.left_is);
+      back = omega (arith, behind1);
+      on = omega (arith, npc_is, low);
+    }
+
+field_word : (h : Host) (from : State) (target room : ℕ) → (x : IsAtTrap h 1 from target) → HasRoomFor h from target room x → (holder place : ℕ) → (found_here room h ≡ One holder (Field place)) ⊎ (found_here room h ≡ One holder (Assign place)) → HasWord (holder + 7 + 4 * place)
+field_word h from target room x le holder place (inl e) = ((tells_of h from target x room le _ e).field holder place refl).here
+field_word h from target room x le holder place (inr e) = ((tells_of h from target x room le _ e).assignment x.formed holder place refl).1
+
+pub fields_are_read : FieldsAreRead
+fields_are_read = field_word
