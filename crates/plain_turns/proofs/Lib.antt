@@ -4,3 +4,5 @@ pub mod Running
 pub mod Places
 pub mod Ending
 pub mod Asked
+pub mod Telling
+pub mod Answering

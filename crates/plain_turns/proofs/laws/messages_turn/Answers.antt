@@ -1,4 +1,5 @@
 use Rattle.plain_turns.proofs.Asked.{messages_ask, fields_are_read}
+use Rattle.plain_turns.proofs.Answering.{data_turns, assignments_turn, misses_end, calls_turn, overflows_end, unbuilt_end}
 use Rattle.plain_turns.proofs.laws.messages_turn.Goals as goal
 
 pub returns-clause-asked : goal.returns-clause-asked
@@ -6,3 +7,21 @@ returns-clause-asked c = messages_ask
 
 pub returns-clause-fields : goal.returns-clause-fields
 returns-clause-fields c = fields_are_read
+
+pub returns-clause-data : goal.returns-clause-data
+returns-clause-data c = data_turns
+
+pub returns-clause-assignment : goal.returns-clause-assignment
+returns-clause-assignment c = assignments_turn
+
+pub returns-clause-missing : goal.returns-clause-missing
+returns-clause-missing c = misses_end
+
+pub returns-clause-method : goal.returns-clause-method
+returns-clause-method c = calls_turn
+
+pub returns-clause-overflow : goal.returns-clause-overflow
+returns-clause-overflow c = overflows_end
+
+pub returns-clause-unbuilt : goal.returns-clause-unbuilt
+returns-clause-unbuilt c = unbuilt_end

@@ -1,0 +1,147 @@
+-- What is found tells what the message meets.
+use Rattle.std.proofs.Common.{◌≡◌, ◌≢◌, ℕ, zero, suc, ◌+◌, ◌*◌, ◌<◌, ◌≤◌, refl, ◌∙◌, ap, sym, subst, arith, inl, inr}
+use Rattle.std.specs.Prelude.{◌⊎◌, ◌&&◌, not, is_some, Bool, true, false, List, length, ◌∷◌, Option, Some, None, slice_get}
+use Rattle.std.proofs.lemmas.Bool.{le-ltb, lt-ltb}
+use Rattle.std.proofs.lemmas.Option.{same_Some, none-some}
+use Rattle.self_terms.specs.declared.bodies.Body.{Body}
+use Rattle.self_terms.specs.declared.errors.ErrorName.{ErrorName}
+use Rattle.self_terms.specs.declared.nodes.Node.{Node}
+use Rattle.self_terms.specs.declared.nodes.Node.TheVariants as nodes
+use Rattle.self_terms.specs.declared.nodes.Selector.{Selector}
+use Rattle.self_terms.specs.declared.values.BodyId.{BodyId}
+use Rattle.self_terms.specs.declared.values.Value.{Value}
+use Rattle.self_terms.specs.declared.values.Value.TheVariants as values
+use Rattle.object_maps.specs.declared.maps.SlotKind.TheVariants.{Constant, Parent, Field, Assign, Method as MethodSlot}
+use Rattle.slot_lookup.specs.declared.sends.Found.{Found}
+use Rattle.slot_lookup.specs.declared.sends.Found.TheVariants.{NotUnderstood, One, Ambiguous}
+use Rattle.sparc_store.specs.Words.{Words, word_at}
+use Rattle.source_model.specs.declared.objects.Content.TheVariants.{Method}
+use Rattle.source_model.specs.Formed.{IsWellFormed}
+use Rattle.source_model.specs.Messages.{Met, Holds, body_of}
+use Rattle.self_terms.specs.Depths.{taken}
+use Rattle.source_model.specs.Sends.{Message}
+use Rattle.source_model.specs.Soundness.{body_in, HasBody, Accepts, BlockAccepts, MetAccepts, NodeAccepts}
+use Rattle.source_model.specs.State.{Activation, Running, State}
+use Rattle.source_model.specs.Step.{node_at, value_at, stated, implied}
+use Rattle.source_model.proofs.Finding.{finds_messages}
+use Rattle.source_model.proofs.Soundly.{finds_arguments, finds_values}
+use Rattle.raw_steps.specs.Sends.{here_of}
+use Rattle.raw_steps.specs.Stands.{Sense}
+use Rattle.plain_runs.specs.Host.{Host}
+use Rattle.plain_sends.specs.Found.{data_word}
+use Rattle.plain_sends.specs.Sends.{selector_of, met_of, IsData}
+use Rattle.plain_answers.specs.Found.{IsMethod}
+use Rattle.plain_answers.specs.Whole.{whole}
+use Rattle.plain_lookups.specs.Telling.{begins_at, IsEvaluated, FoundTells}
+use Rattle.plain_words.specs.Units.{owns_context}
+use Rattle.plain_steps.specs.Steps.{StandsFor}
+use Rattle.plain_stretches.specs.Gate.{is_blockless, may_enter}
+use Rattle.plain_stretches.specs.Stretches.{HasNoBlocks}
+
+-- data and its word
+pub data_told : {z : Sense} {h : Host} {s : State} {receiver : Option Value} {w name : ℕ} {met : Met} (r : Host) (f : Found) → FoundTells z h s r.machine.memory receiver w name f met → (word : ℕ) → data_word (whole r) f ≡ Some word → IsData z met word
+data_told {z = z} {met = met} r (One holder (Constant u)) tells word e = subst (IsData z met) (same_Some u word e) (tells.constant holder u refl)
+data_told {z = z} {met = met} r (One holder (Parent u)) tells word e = subst (IsData z met) (same_Some u word e) (tells.parent holder u refl)
+data_told {z = z} {met = met} r (One holder (Field place)) tells word e = subst (IsData z met) (same_Some (word_at r.machine.memory (holder + 7 + 4 * place)) word e) (tells.field holder place refl).known
+data_told r (One holder (Assign place)) tells word e = absurd (none-some word e)
+data_told r (One holder (MethodSlot c)) tells word e = absurd (none-some word e)
+data_told r NotUnderstood tells word e = absurd (none-some word e)
+data_told r (Ambiguous a b) tells word e = absurd (none-some word e)
+
+-- What a method that was found is.
+
+-- a method's body is there, takes as many arguments as the message has, and stands in no other's; a block's stands in one
+pub data IsFoundMethod (z : Sense) (s : State) (bodies : List Body) (args holder : ℕ) (c : BodyId) (met : Met) : Type 0 where
+  OfObject : IsMethod z s met holder c → Accepts bodies c.0 args None → IsFoundMethod z s bodies args holder c met
+  OfBlock : (o outer : ℕ) → met ≡ Holds o (Method c) → HasBody bodies c.0 → (body_in bodies c.0).outer ≡ Some outer → IsFoundMethod z s bodies args holder c met
+
+-- the message of a node that sends has so many arguments, and is accepted; where its lookup begins at a value, that is its receiver
+record Accepted (home : ℕ → ℕ) (s : State) (node : Node) (a : Activation) (args : ℕ) (met : Met) : Type 0 where
+  message : Message
+  many : length message.arguments ≡ args
+  accepts : MetAccepts home s message met
+  receives : (v : Value) → begins_at node a ≡ Some v → message.receiver ≡ v
+
+accepted_as : (s : State) (a : Activation) (older : List Activation) (node : Node) (sel : Selector) → slice_get s.activities s.current ≡ Some (Running (a ∷ older)) → node_at (body_of s a.body) a.next ≡ node → selector_of node ≡ Some sel
+    → (w : IsWellFormed s) → Accepted w.0 s node a sel.args (met_of node s a)
+accepted_as s a older node sel here is given w = by_node node given (finds_values w.0 s a older node w.1.well (record { here = here; node = is })) (subst (λ (x : Node). NodeAccepts w.0 (here_of s a older) x) is (finds_messages w.0 s w.1 a older here))
+  where
+    by_node : (x : Node) → selector_of x ≡ Some sel → taken x ≤ length a.pending → NodeAccepts w.0 (here_of s a older) x → Accepted w.0 s x a sel.args (met_of x s a)
+    by_node (nodes.Send y) e enough ok = record {
+      message = stated y.args (here_of s a older);
+      many = finds_arguments y.args a.pending (omega (arith, enough)) ∙ ap (λ (q : Selector). q.args) (same_Some y sel e);
+      accepts = ok;
+      receives = λ v f. same_Some (value_at a.pending y.args) v f;
+    }
+    by_node (nodes.SelfSend y) e enough ok = record {
+      message = implied y.args (here_of s a older);
+      many = finds_arguments y.args a.pending enough ∙ ap (λ (q : Selector). q.args) (same_Some y sel e);
+      accepts = ok;
+      receives = λ v f. same_Some a.receiver v f;
+    }
+    by_node (nodes.Resend y) e enough ok = record {
+      message = implied y.args (here_of s a older);
+      many = finds_arguments y.args a.pending enough ∙ ap (λ (q : Selector). q.args) (same_Some y sel e);
+      accepts = ok;
+      receives = λ v f. absurd (none-some v f);
+    }
+    by_node (nodes.Directed parent y) e enough ok = record {
+      message = implied y.args (here_of s a older);
+      many = finds_arguments y.args a.pending enough ∙ ap (λ (q : Selector). q.args) (same_Some y sel e);
+      accepts = ok;
+      receives = λ v f. absurd (none-some v f);
+    }
+    by_node _ e enough ok = absurd (none-some sel e)
+
+accepts_at : (home : ℕ → ℕ) (s : State) (m : Message) (met new : Met) → met ≡ new → MetAccepts home s m met → MetAccepts home s m new
+accepts_at home s m met new e ok = subst (MetAccepts home s m) e ok
+
+pub method_told : (z : Sense) (s : State) (bodies : List Body) → bodies ≡ s.bodies → (a : Activation) (older : List Activation) (node : Node) (sel : Selector) → slice_get s.activities s.current ≡ Some (Running (a ∷ older)) → node_at (body_of s a.body) a.next ≡ node
+    → selector_of node ≡ Some sel → IsWellFormed s → (w name holder : ℕ) (c : BodyId) → IsMethod z s (met_of node s a) holder c ⊎ IsEvaluated z s (begins_at node a) (met_of node s a) name holder c w → IsFoundMethod z s bodies sel.args holder c (met_of node s a)
+method_told z s bodies same a older node sel here is given formed w name holder c (inl m) =
+    let g = accepted_as s a older node sel here is given formed in
+    let ok = (accepts_at formed.0 s g.message _ (Holds m.object (Method c)) m.met_is g.accepts).0 (lt-ltb m.object (length s.things) m.inside) in
+    OfObject m (subst (λ (bs : List Body). Accepts bs c.0 sel.args None) (sym same) (subst (λ (k : ℕ). Accepts s.bodies c.0 k None) g.many ok))
+method_told z s bodies same a older node sel here is given formed w name holder c (inr q) =
+    let g = accepted_as s a older node sel here is given formed in
+    let beyond = (accepts_at formed.0 s g.message _ (Holds (length s.things) (Method c)) q.evaluates.met_is g.accepts).1 (le-ltb (length s.things) (length s.things) (omega arith)) in
+    let of_block = subst (BlockAccepts s.bodies formed.0 (length g.message.arguments)) (g.receives (values.Block q.block q.maker) q.receiver_is) beyond in
+    let mine = subst (λ (k : BodyId). Accepts s.bodies k.0 (length g.message.arguments) (Some (formed.0 q.maker))) (sym q.evaluates.body_is) of_block in
+    let here2 = subst (λ (bs : List Body). Accepts bs c.0 (length g.message.arguments) (Some (formed.0 q.maker))) (sym same) mine in
+    OfBlock (length s.things) (formed.0 q.maker) q.evaluates.met_is here2.given here2.outer
+
+-- Bodies without blocks.
+
+blockless_is : (o : Option ℕ) (owns : Bool) → (not (is_some o) && not owns) ≡ true → (o ≡ None) × (owns ≡ false)
+blockless_is None false e = (refl, refl)
+blockless_is None true e = absurd (cc)
+blockless_is (Some k) owns e = absurd (cc)
+
+is_blockless_by : (o : Option ℕ) (owns : Bool) → o ≡ None → owns ≡ false → (not (is_some o) && not owns) ≡ true
+is_blockless_by None false e f = refl
+is_blockless_by None true e f = absurd (cc)
+is_blockless_by (Some k) owns e f = absurd (cc)
+
+pub blockless_body : (x : Body) → is_blockless x ≡ true → HasNoBlocks x
+blockless_body x e = let q = blockless_is x.outer (owns_context x) e in record { method = q.0; context = q.1 }
+
+pub body_blockless : (x : Body) → HasNoBlocks x → is_blockless x ≡ true
+body_blockless x h = is_blockless_by x.outer (owns_context x) h.method h.context
+
+-- what a method that was found has to do with the gate
+pub gate_by : (z : Sense) (s : State) (bodies : List Body) (args holder : ℕ) (c : BodyId) (met : Met) → bodies ≡ s.bodies → IsFoundMethod z s bodies args holder c met → may_enter s met ≡ is_blockless (body_in bodies c.0)
+gate_by z s bodies args holder c met same (OfObject m ok) = ap (may_enter s) m.met_is ∙ ap (λ bs. is_blockless (body_in bs c.0)) (sym same)
+gate_by z s bodies args holder c met same (OfBlock o outer met_is given inside) = ap (may_enter s) met_is ∙ ap (λ bs. is_blockless (body_in bs c.0)) (sym same)
+
+pub given_by : (z : Sense) (s : State) (bodies : List Body) (args holder : ℕ) (c : BodyId) (met : Met) → IsFoundMethod z s bodies args holder c met → HasBody bodies c.0
+given_by z s bodies args holder c met (OfObject m ok) = ok.given
+given_by z s bodies args holder c met (OfBlock o outer met_is given inside) = given
+
+-- one without blocks is a method's
+pub record IsOfObject (z : Sense) (s : State) (bodies : List Body) (args holder : ℕ) (c : BodyId) (met : Met) : Type 0 where
+  pub method : IsMethod z s met holder c
+  pub accepts : Accepts bodies c.0 args None
+
+pub object_by : (z : Sense) (s : State) (bodies : List Body) (args holder : ℕ) (c : BodyId) (met : Met) → HasNoBlocks (body_in bodies c.0) → IsFoundMethod z s bodies args holder c met → IsOfObject z s bodies args holder c met
+object_by z s bodies args holder c met plain (OfObject m ok) = record { method = m; accepts = ok }
+object_by z s bodies args holder c met plain (OfBlock o outer met_is given inside) = absurd (none-some outer (sym plain.method ∙ inside))
