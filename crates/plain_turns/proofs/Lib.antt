@@ -6,3 +6,4 @@ pub mod Ending
 pub mod Asked
 pub mod Telling
 pub mod Answering
+pub mod Putting

@@ -1,4 +1,5 @@
 use Rattle.plain_turns.proofs.Asked.{messages_ask, fields_are_read}
+use Rattle.plain_turns.proofs.Putting.{methods_there, units_fit, units_turn}
 use Rattle.plain_turns.proofs.Answering.{data_turns, assignments_turn, misses_end, calls_turn, overflows_end, unbuilt_end}
 use Rattle.plain_turns.proofs.laws.messages_turn.Goals as goal
 
@@ -25,3 +26,12 @@ returns-clause-overflow c = overflows_end
 
 pub returns-clause-unbuilt : goal.returns-clause-unbuilt
 returns-clause-unbuilt c = unbuilt_end
+
+pub returns-clause-there : goal.returns-clause-there
+returns-clause-there c = methods_there
+
+pub returns-clause-room : goal.returns-clause-room
+returns-clause-room c = units_fit
+
+pub returns-clause-unit : goal.returns-clause-unit
+returns-clause-unit c = units_turn
