@@ -21,7 +21,7 @@ use Rattle.self_terms.specs.Depths.{depth}
 use Rattle.plain_runs.specs.Host.{Host, raw_of, first_unit}
 use Rattle.plain_runs.specs.Sound.{callers_of}
 use Rattle.plain_runs.specs.Services.{with_left, data_answers, assigns, calls, fails}
-use Rattle.plain_runs.specs.Course.{with_machine}
+use Rattle.plain_runs.specs.Course.{with_machine, AllRun}
 use Rattle.plain_steps.specs.Steps.{DoesStep}
 use Rattle.plain_sends.specs.Found.{data_word}
 use Rattle.plain_sends.specs.Sends.{met_of, IsSent, IsData}
@@ -38,8 +38,9 @@ use Rattle.plain_stretches.specs.Stretches.{IsBlockless, StretchOn}
 use Rattle.plain_stretches.proofs.Owned.{blockless_on, blockless_units}
 use Rattle.plain_stretches.proofs.Stretches.{steps_stretch, answers_stretch}
 use Rattle.plain_turns.specs.Asking.{count, place_here, found_here}
+use Rattle.plain_turns.specs.Rooms.{HasRoom}
 use Rattle.plain_turns.specs.Resting.{IsGoing, IsAtTrap, HasRun}
-use Rattle.plain_turns.specs.Turns.{HasRoomFor, DataTurns, AssignmentsTurn, MissesEnd, MethodsAreThere, CallsTurn, OverflowsEnd, UnbuiltEnd}
+use Rattle.plain_turns.specs.Turns.{StepsOn, HasRoomFor, DataTurns, AssignmentsTurn, MissesEnd, MethodsAreThere, CallsTurn, OverflowsEnd, UnbuiltEnd}
 use Rattle.plain_turns.proofs.Asked.{at_poll, sent, moved, place_is, tells_of, goal_left, counted_is, entering, error_step}
 use Rattle.plain_turns.proofs.Ending.{error_ends}
 use Rattle.plain_turns.proofs.Telling.{data_told, IsFoundMethod, method_told, gate_by, given_by, body_blockless, object_by}
@@ -61,7 +62,29 @@ module _ (h : Host) (from : State) (target room : ℕ) (x : IsAtTrap h 1 from ta
   plain_poll : IsBlockless poll_host
   plain_poll = blockless_on h x.last x.plain
 
-  data_turn : (cost word : ℕ) → data_word (whole h) (found_here room h) ≡ Some word → IsGoing (data_answers rest cost word h) from target
+  -- a stretch behind a service leads on
+  goes_on : (to : Host) → AllRun to → to.current < 4 → IsBlockless to → HasRoom to → StretchOn x.sense to x.state (suc rest) → StepsOn h to from target
+  goes_on to all low plain full on = record {
+    going = record {
+      sense = x.sense;
+      state = x.state;
+      done = x.done;
+      runs = x.runs;
+      counted = x.counted;
+      all = all;
+      current = low;
+      formed = x.formed;
+      plain = plain;
+      room = full;
+      left = suc rest;
+      near = omega (arith, rest_is, x.near);
+      left_is = omega (arith, rest_is, x.left_is);
+      stretch = on.stretch;
+    };
+    more = omega (arith, counted_is h from target x, on.some);
+  }
+
+  data_turn : (cost word : ℕ) → data_word (whole h) (found_here room h) ≡ Some word → StepsOn h (data_answers rest cost word h) from target
   data_turn cost word e =
       let q = sent h from target x in
       let tells = tells_of h from target x room le (found_here room h) refl in
@@ -69,24 +92,9 @@ module _ (h : Host) (from : State) (target room : ℕ) (x : IsAtTrap h 1 from ta
       let known = data_told (with_machine poll_host q.sent.asks.to) (found_here room h) tells word e2 in
       let on = answers_stretch x.sense poll_host x.state x.on.body x.on.number x.on.node q.selector x.on.at q.sent x.on.sound.stands q.can plain_poll rest cost word (omega (arith, rest_is, x.near)) known in
       let P : MachineState → Type 0 = λ m. StretchOn x.sense (data_answers rest cost word (with_machine poll_host m)) x.state (suc rest) in
-      record {
-        sense = x.sense;
-        state = x.state;
-        done = x.done;
-        runs = x.runs;
-        counted = x.counted;
-        all = x.on.sound.runs;
-        current = x.on.sound.current;
-        formed = x.formed;
-        plain = record { fit = x.plain.fit; units = x.plain.units };
-        room = record { each = x.room.each; left = x.room.left };
-        left = suc rest;
-        near = omega (arith, rest_is, x.near);
-        left_is = omega (arith, rest_is, x.left_is);
-        stretch = (subst P (sym q.there) on).stretch;
-      }
+      goes_on (data_answers rest cost word h) x.on.sound.runs x.on.sound.current (record { fit = x.plain.fit; units = x.plain.units }) (record { each = x.room.each; left = x.room.left; lobby = x.room.lobby }) (subst P (sym q.there) on)
 
-  assignment_turn : (cost holder place : ℕ) → found_here room h ≡ One holder (Assign place) → IsGoing (assigns rest cost (holder + 7 + 4 * place) h) from target
+  assignment_turn : (cost holder place : ℕ) → found_here room h ≡ One holder (Assign place) → StepsOn h (assigns rest cost (holder + 7 + 4 * place) h) from target
   assignment_turn cost holder place e =
       let q = sent h from target x in
       let tells = tells_of h from target x room le (One holder (Assign place)) e in
@@ -101,22 +109,7 @@ module _ (h : Host) (from : State) (target room : ℕ) (x : IsAtTrap h 1 from ta
       let plain1 : IsBlockless h1 = record { fit = x.plain.fit; units = x.plain.units } in
       let on = steps_stretch x.sense h1 x.state rest x.on.sound.runs x.on.sound.current plain1 built d (omega (arith, left1, before, q.sent.asks.moved.counted)) in
       let P : MachineState → Type 0 = λ m. StretchOn x.sense (assigns rest cost (holder + 7 + 4 * place) (with_machine poll_host m)) x.state (suc rest) in
-      record {
-        sense = x.sense;
-        state = x.state;
-        done = x.done;
-        runs = x.runs;
-        counted = x.counted;
-        all = x.on.sound.runs;
-        current = x.on.sound.current;
-        formed = x.formed;
-        plain = record { fit = x.plain.fit; units = x.plain.units };
-        room = record { each = x.room.each; left = x.room.left };
-        left = suc rest;
-        near = omega (arith, rest_is, x.near);
-        left_is = omega (arith, rest_is, x.left_is);
-        stretch = (subst P (sym q.there) on).stretch;
-      }
+      goes_on (assigns rest cost (holder + 7 + 4 * place) h) x.on.sound.runs x.on.sound.current (record { fit = x.plain.fit; units = x.plain.units }) (record { each = x.room.each; left = x.room.left; lobby = x.room.lobby }) (subst P (sym q.there) on)
 
   -- a method that was found
   pub found_method : (holder : ℕ) (c : BodyId) → found_here room h ≡ One holder (MethodSlot c) → IsFoundMethod x.sense x.state h.bodies (sent h from target x).selector.args holder c (met_of x.on.node x.state (sent h from target x).sent.sender)
@@ -128,7 +121,7 @@ module _ (h : Host) (from : State) (target room : ℕ) (x : IsAtTrap h 1 from ta
   pub entry_plain : (c : BodyId) (at : ℕ) → 0 < c.0 → slice_get h.entries (c.0 - 1) ≡ Some at → at ≢ 0 → is_blockless (body_in h.bodies c.0) ≡ true
   entry_plain c at given is some = body_blockless (body_in h.bodies c.0) (x.plain.units c.0 at given is some)
 
-  call_turn : (cost holder at : ℕ) (c : BodyId) → found_here room h ≡ One holder (MethodSlot c) → slice_get h.entries (c.0 - 1) ≡ Some at → at ≢ 0 → h.machine.regs 4 < 4096 → IsGoing (calls (target - count h) cost at holder h) from target
+  call_turn : (cost holder at : ℕ) (c : BodyId) → found_here room h ≡ One holder (MethodSlot c) → slice_get h.entries (c.0 - 1) ≡ Some at → at ≢ 0 → h.machine.regs 4 < 4096 → StepsOn h (calls (target - count h) cost at holder h) from target
   call_turn cost holder at c e entry some room_left =
       let q = sent h from target x in
       let found = found_method holder c e in
@@ -148,22 +141,7 @@ module _ (h : Host) (from : State) (target room : ℕ) (x : IsAtTrap h 1 from ta
       let plain1 : IsBlockless h1 = record { fit = x.plain.fit; units = x.plain.units } in
       let on = steps_stretch x.sense h1 x.state rest x.on.sound.runs x.on.sound.current plain1 built d (omega (arith, goal_is, is, before, q.sent.asks.moved.counted)) in
       let P : MachineState → Type 0 = λ m. StretchOn x.sense (calls goal cost at holder (with_machine poll_host m)) x.state (suc rest) in
-      record {
-        sense = x.sense;
-        state = x.state;
-        done = x.done;
-        runs = x.runs;
-        counted = x.counted;
-        all = x.on.sound.runs;
-        current = x.on.sound.current;
-        formed = x.formed;
-        plain = record { fit = x.plain.fit; units = x.plain.units };
-        room = record { each = x.room.each; left = x.room.left };
-        left = suc rest;
-        near = omega (arith, rest_is, x.near);
-        left_is = omega (arith, rest_is, x.left_is);
-        stretch = (subst P (sym q.there) on).stretch;
-      }
+      goes_on (calls goal cost at holder h) x.on.sound.runs x.on.sound.current (record { fit = x.plain.fit; units = x.plain.units }) (record { each = x.room.each; left = x.room.left; lobby = x.room.lobby }) (subst P (sym q.there) on)
 
   -- an error that the source's step is
   error_turn : (e : ErrorName) → gated_step x.state ≡ silent (with_current (Ended_by e (place_here h)) x.state) → (goal cost : ℕ) → goal ≤ 1000000000 → HasRun (fails goal cost e (place_here h) h) from target

@@ -215,6 +215,7 @@ messages_ask h from target room x le =
       left = omega (arith, goal_left h from target x, counted_is h from target x, x.left_is);
       back = omega (arith, behind1);
       on = omega (arith, npc_is, low);
+      low = omega (arith, ap (λ (m : MachineState). m.pc) q.there, q.sent.asks.moved.stands.here, low);
     }
 
 field_word : (h : Host) (from : State) (target room : ℕ) → (x : IsAtTrap h 1 from target) → HasRoomFor h from target room x → (holder place : ℕ) → (found_here room h ≡ One holder (Field place)) ⊎ (found_here room h ≡ One holder (Assign place)) → HasWord (holder + 7 + 4 * place)

@@ -80,7 +80,7 @@ module _ (h : Host) (trap : ℕ) (from : State) (target : ℕ) (x : IsAtTrap h t
           parks = idle (fails goal cost e place h) (Failed e place) h.statuses refl (λ sp pc n same. cc);
           formed = failed_formed s e place x.formed;
           plain = record { fit = x.plain.fit; units = x.plain.units };
-          room = record { each = x.room.each; left = x.room.left };
+          room = record { each = x.room.each; left = x.room.left; lobby = x.room.lobby };
         };
       }
 
@@ -97,7 +97,7 @@ goal_at h trap from target x two (AtGoal e none w) = (
       parks = AtPoll x.on.body x.on.number x.on.node (w.there goal cost few);
       formed = x.formed;
       plain = record { fit = x.plain.fit; units = x.plain.units };
-      room = record { each = x.room.each; left = x.room.left };
+      room = record { each = x.room.each; left = x.room.left; lobby = x.room.lobby };
     };
   },
 )
@@ -155,7 +155,7 @@ answer_at h trap from target x nine (AtEnd e q) goal cost few =
         parks = idle (ends goal cost h) (Answered (h.machine.regs 8)) h.statuses refl (λ sp pc n same. cc);
         formed = subst (λ (r : Reached). IsWellFormed r.state) now (gated_forms s x.formed);
         plain = record { fit = x.plain.fit; units = x.plain.units };
-        room = record { each = x.room.each; left = x.room.left };
+        room = record { each = x.room.each; left = x.room.left; lobby = x.room.lobby };
       };
     }
 

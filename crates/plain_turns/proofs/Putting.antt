@@ -32,10 +32,10 @@ use Rattle.plain_stretches.specs.Stretches.{IsBlockless, HasNoBlocks}
 use Rattle.plain_stretches.proofs.Owned.{IsOwn, own_node}
 use Rattle.plain_stretches.proofs.Settled.{set_there, set_elsewhere, set_long}
 use Rattle.plain_stretches.proofs.Stretches.{polls_stretch}
-use Rattle.plain_turns.specs.Rooms.{most_words, unput, HasRoom}
+use Rattle.plain_turns.specs.Rooms.{most_words, unput, unmade, HasRoom}
 use Rattle.plain_turns.specs.Asking.{count, found_here, behind_poll, goes_back}
 use Rattle.plain_turns.specs.Resting.{IsGoing, IsAtTrap}
-use Rattle.plain_turns.specs.Turns.{IsAsked, HasRoomFor, MethodsAreThere, UnitsFit, UnitsTurn}
+use Rattle.plain_turns.specs.Turns.{IsAsked, HasRoomFor, MethodsAreThere, UnitsFit, BeginsAgain, UnitsTurn}
 use Rattle.plain_turns.proofs.Back.{back_again}
 use Rattle.plain_turns.proofs.Asked.{at_poll, sent, moved, node_is, goal_left, counted_is, behind_is}
 use Rattle.plain_turns.proofs.Answering.{found_method}
@@ -60,6 +60,13 @@ unput_set (zero ∷ es) (y ∷ ys) zero a x e f = let same : y ≡ x = same_Some
 unput_set (suc b ∷ es) (y ∷ ys) zero a x e f = absurd (omega (arith, same_Some (suc b) 0 e))
 unput_set (zero ∷ es) (y ∷ ys) (suc k) a x e f = omega (arith, unput_set es ys k a x e f)
 unput_set (suc b ∷ es) (y ∷ ys) (suc k) a x e f = unput_set es ys k a x e f
+
+unmade_set : (es : List ℕ) (k a : ℕ) → slice_get es k ≡ Some 0 → unmade (slice_set es k (suc a)) < unmade es
+unmade_set [] k a e = absurd (none-some 0 e)
+unmade_set (zero ∷ es) zero a e = omega arith
+unmade_set (suc b ∷ es) zero a e = absurd (omega (arith, same_Some (suc b) 0 e))
+unmade_set (zero ∷ es) (suc k) a e = omega (arith, unmade_set es k a e)
+unmade_set (suc b ∷ es) (suc k) a e = unmade_set es k a e
 
 -- a method's locals are its own
 short_node : (locals : ℕ) (node : Node) → IsOwn locals node → IsShort 64 node → IsShort 7 node
@@ -157,9 +164,10 @@ module _ (h : Host) (from : State) (target room : ℕ) (x : IsAtTrap h 1 from ta
           record {
             each = set_long h.entries (c.0 - 1) (next_unit h) ∙ x.room.each;
             left = omega (arith, unput_is, long, x.room.left, points_long h.references c.0 body, length-append h.points (unit_points h.references c.0 body));
+            lobby = x.room.lobby;
           }
 
-      unit_turn : (cost : ℕ) → IsGoing (goes_back (behind_poll (sent h from target x).selector.args) (target - count h) cost (with_unit c.0 memory h)) from target
+      unit_turn : (cost : ℕ) → BeginsAgain h (goes_back (behind_poll (sent h from target x).selector.args) (target - count h) cost (with_unit c.0 memory h)) from target
       unit_turn cost =
           let q = sent h from target x in
           let s = x.state in
@@ -175,7 +183,8 @@ module _ (h : Host) (from : State) (target room : ℕ) (x : IsAtTrap h 1 from ta
           let set = back_again x.sense to s m2 bytes on mv2 goal cost few in
           let last = goes_back bytes goal cost (with_unit c.0 memory h) in
           let plain2 : IsBlockless last = record { fit = plain_to.fit; units = plain_to.units } in
-          record {
+          let fewer_left : unmade (slice_set h.entries (c.0 - 1) (next_unit h)) < unmade h.entries = (let P : ℕ → Type 0 = λ a. unmade (slice_set h.entries (c.0 - 1) a) < unmade h.entries in subst P (omega arith) (unmade_set h.entries (c.0 - 1) (next_unit h - 1) none)) in
+          record { going = record {
             sense = x.sense;
             state = s;
             done = x.done;
@@ -185,12 +194,12 @@ module _ (h : Host) (from : State) (target room : ℕ) (x : IsAtTrap h 1 from ta
             current = x.on.sound.current;
             formed = x.formed;
             plain = plain2;
-            room = record { each = room_to.each; left = room_to.left };
+            room = record { each = room_to.each; left = room_to.left; lobby = room_to.lobby };
             left = goal;
             near = few;
             left_is = omega (arith, counted_is h from target x, x.left_is);
             stretch = polls_stretch x.sense last s goal set plain2;
-          }
+          }; same = omega (arith, counted_is h from target x); fewer = fewer_left; }
 
 pub methods_there : MethodsAreThere
 methods_there h from target room x le holder c e = (given h from target room x le holder c e, translates h from target room x le holder c e, entry_at h from target room x le holder c e (slice_get h.entries (c.0 - 1)) refl)
@@ -206,5 +215,5 @@ same_selector h from target room x a =
 
 pub units_turn : UnitsTurn
 units_turn h from target room x le a cost holder c e none built memory put =
-    subst (λ (k : ℕ). IsGoing (goes_back (behind_poll k) (target - count h) cost (with_unit c.0 memory h)) from target) (same_selector h from target room x a)
+    subst (λ (k : ℕ). BeginsAgain h (goes_back (behind_poll k) (target - count h) cost (with_unit c.0 memory h)) from target) (same_selector h from target room x a)
     (unit_turn h from target room x le holder c e none built memory put cost)

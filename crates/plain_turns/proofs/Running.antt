@@ -21,7 +21,7 @@ use Rattle.plain_stretches.proofs.Owned.{blockless_on}
 use Rattle.plain_stretches.proofs.Stretches.{polls_stretch, stretches_run}
 use Rattle.plain_turns.specs.Asking.{count, goes_back}
 use Rattle.plain_turns.specs.Resting.{Rests, IsGoing, IsAtTrap}
-use Rattle.plain_turns.specs.Turns.{RunsBegin, Comes, RunsCome, AtTrap, TrapsTell}
+use Rattle.plain_turns.specs.Turns.{RunsBegin, Comes, RunsCome, AtTrap, TrapsTell, ObjectsCount}
 use Rattle.plain_turns.proofs.Formed.{run_forms}
 use Rattle.plain_turns.proofs.Back.{back_again}
 
@@ -51,7 +51,7 @@ runs_begin h s sp pc known r running goal cost few =
       current = r.sound.current;
       formed = r.formed;
       plain = plain;
-      room = record { each = r.room.each; left = r.room.left };
+      room = record { each = r.room.each; left = r.room.left; lobby = r.room.lobby };
       left = goal;
       near = few;
       left_is = refl;
@@ -80,6 +80,7 @@ runs_come h from target most g far =
       instructions = x.instructions;
       to = x.to;
       runs = run;
+      goes = x.goes;
       at = record {
         sense = x.sense;
         state = x.state;
@@ -90,7 +91,7 @@ runs_come h from target most g far =
         on = x.on;
         formed = run_forms x.steps g.state x.state x.runs g.formed;
         plain = blockless_on h x.to g.plain;
-        room = record { each = g.room.each; left = g.room.left };
+        room = record { each = g.room.each; left = g.room.left; lobby = g.room.lobby };
         near = omega (arith, x.still, g.near);
         left_is = omega (arith, x.still, g.left_is, x.counted);
         stands = x.stands;
@@ -128,14 +129,32 @@ cost_at z h s on trap to (AtLack q) =
     let before : h.cost + h.machine.regs 3 ≡ s.cost = on.sound.stands.stands.cost in
     omega (arith, before, on.sound.stands.stands.within, q.moved.kept 3 refl)
 
+-- and it is within the run
+near_at : (z : Sense) (h : Host) (s : State) (on : IsOn z h s) (trap : ℕ) (to : MachineState) → Halts z h s on trap to → h.steps + to.regs 2 ≤ s.steps + 1
+near_at z h s on trap to (AtGoal e none w) = let before : h.steps + h.machine.regs 2 ≡ s.steps = on.sound.stands.stands.steps in omega (arith, before, w.moved.counted)
+near_at z h s on trap to (AtSend e q) =
+    let before : h.steps + h.machine.regs 2 ≡ s.steps = on.sound.stands.stands.steps in
+    let same : to.regs 2 ≡ h.machine.regs 2 = ap (λ (m : MachineState). m.regs 2) q.there ∙ q.sent.asks.moved.counted in
+    omega (arith, before, same)
+near_at z h s on trap to (AtEnd e q) =
+    let after : h.steps + q.ends.to.regs 2 ≡ _ = q.ends.stands.stands.steps in
+    let same : to.regs 2 ≡ q.ends.to.regs 2 = ap (λ (m : MachineState). m.regs 2) q.there in
+    omega (arith, after, same, q.ends.counted)
+near_at z h s on trap to (AtLack q) = let before : h.steps + h.machine.regs 2 ≡ s.steps = on.sound.stands.stands.steps in omega (arith, before, q.moved.counted)
+
+pub objects_count : ObjectsCount
+objects_count h trap from target x = sym x.on.sound.stands.stands.heap.numbered
+
 pub traps_tell : TrapsTell
 traps_tell h trap from target x =
     let v = x.on.at.view in
     let hm = with_machine h x.last in
     let c : x.state.steps ≤ h.steps + h.machine.regs 2 = counted_at x.sense hm x.state x.on trap h.machine x.halts in
+    let d : h.steps + h.machine.regs 2 ≤ x.state.steps + 1 = near_at x.sense hm x.state x.on trap h.machine x.halts in
     record {
       service = service_at x.sense hm x.state x.on trap h.machine x.halts;
       running = slice_get_within h.statuses h.current (Waiting v.sp v.pc v.known) v.running;
       far = omega (arith, c, x.left_is, x.near);
+      near = omega (arith, d, x.left_is);
       sums = cost_at x.sense hm x.state x.on trap h.machine x.halts;
     }

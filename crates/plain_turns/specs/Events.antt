@@ -1,5 +1,5 @@
 -- How machine and host are reached: by instructions and services alone.
-use Rattle.std.specs.Prelude.{◌≡◌, ℕ, ◌+◌, ◌-◌, ◌*◌, ◌≤◌, Some, slice_get}
+use Rattle.std.specs.Prelude.{◌≡◌, ℕ, ◌+◌, ◌-◌, ◌*◌, ◌≤◌, false, Some, slice_get}
 use Rattle.self_terms.specs.declared.errors.ErrorName.{ErrorName}
 use Rattle.self_terms.specs.declared.errors.ErrorName.TheVariants as errors
 use Rattle.self_terms.specs.declared.values.BodyId.{BodyId}

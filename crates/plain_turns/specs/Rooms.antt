@@ -1,5 +1,5 @@
 -- Room for the units of all bodies.
-use Rattle.std.specs.Prelude.{◌≡◌, ℕ, zero, suc, ◌+◌, ◌*◌, ◌≤◌, List, [], ◌∷◌, length}
+use Rattle.std.specs.Prelude.{◌≡◌, ℕ, zero, suc, ◌+◌, ◌*◌, ◌<◌, ◌≤◌, List, [], ◌∷◌, length}
 use Rattle.self_terms.specs.declared.bodies.Body.{Body}
 use Rattle.plain_runs.specs.Host.{Host}
 
@@ -14,7 +14,14 @@ unput (e ∷ es) [] = 0
 unput (zero ∷ es) (x ∷ xs) = most_words x + unput es xs
 unput (suc at ∷ es) (x ∷ xs) = unput es xs
 
--- There is room in the code region for all of them behind the units that stand; each body has its entry.
+-- how many bodies have no unit yet
+abbrev pub unmade : List ℕ → ℕ
+unmade [] = 0
+unmade (zero ∷ es) = 1 + unmade es
+unmade (suc at ∷ es) = unmade es
+
+-- There is room in the code region for all of them behind the units that stand; each body has its entry; and units know the lobby.
 pub record HasRoom (h : Host) : Type 0 where
   pub each : length h.entries ≡ length h.bodies
   pub left : length h.points + unput h.entries h.bodies ≤ 8388352
+  pub lobby : 0 < length h.references.objects

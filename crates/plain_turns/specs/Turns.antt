@@ -11,6 +11,7 @@ use Rattle.sparc_store.specs.Words.{Words, HasWord}
 use Rattle.slot_lookup.specs.declared.sends.Found.TheVariants.{One}
 use Rattle.source_model.specs.Soundness.{body_in, HasBody}
 use Rattle.source_model.specs.State.{State}
+use Rattle.plain_words.specs.Going.{Goes}
 use Rattle.plain_words.specs.Translating.{CanTranslate}
 use Rattle.plain_runs.specs.Host.{Host}
 use Rattle.plain_runs.specs.declared.status.Status.TheVariants.{Waiting}
@@ -26,6 +27,7 @@ use Rattle.plain_units.specs.Putting.{IsPut}
 use Rattle.plain_stretches.specs.Gate.{is_blockless}
 use Rattle.plain_stretches.specs.Runs.{RunsTo}
 use Rattle.plain_turns.specs.Asking.{count, body_here, node_here, place_here, place_before, found_here, behind_poll, goes_back}
+use Rattle.plain_turns.specs.Rooms.{unmade}
 use Rattle.plain_turns.specs.Resting.{Rests, IsGoing, IsAtTrap, HasRun}
 
 -- A run begins: the current activity, which is at a poll, goes on to so many steps more.
@@ -38,6 +40,7 @@ pub record Comes (h : Host) (from : State) (target most : ℕ) (g : IsGoing h fr
   pub instructions : ℕ
   pub to : MachineState
   pub runs : RunsTo most instructions trap h.machine to
+  pub goes : Goes instructions h.machine to
   pub at : IsAtTrap (with_machine h to) trap from target
   pub counts : g.state.steps + g.stretch.steps ≤ count (with_machine h to)
 
@@ -50,10 +53,15 @@ pub record AtTrap (h : Host) (trap target : ℕ) : Type 0 where
   pub service : (trap ≡ 1) ⊎ (trap ≡ 2) ⊎ (trap ≡ 3) ⊎ (trap ≡ 4) ⊎ (trap ≡ 9)
   pub running : h.current < length h.statuses
   pub far : target ≤ count h + 1000000000
+  pub near : count h ≤ target + 1
   pub sums : h.cost + h.machine.regs 3 ≤ 4194304
 
 abbrev pub TrapsTell : Type 0
 TrapsTell = (h : Host) (trap : ℕ) (from : State) (target : ℕ) → IsAtTrap h trap from target → AtTrap h trap target
+
+-- the next object's number is how many there are
+abbrev pub ObjectsCount : Type 0
+ObjectsCount = (h : Host) (trap : ℕ) (from : State) (target : ℕ) → (x : IsAtTrap h trap from target) → length x.state.things ≡ h.next
 
 -- Nothing is left of the goal; or the oldest activation has answered; or the node's service isn't built.
 abbrev pub GoalsEnd : Type 0
@@ -82,9 +90,15 @@ pub record IsAsked (h : Host) (target room : ℕ) : Type 0 where
   pub left : count h < target
   pub back : behind_poll selector.args ≤ h.machine.pc
   pub on : h.machine.npc + 4 < 2 ^ 32
+  pub low : h.machine.pc + 8 < 2 ^ 32
 
 abbrev pub MessagesAsk : Type 0
 MessagesAsk = (h : Host) (from : State) (target room : ℕ) → (x : IsAtTrap h 1 from target) → length x.state.things ≤ room → IsAsked h target room
+
+-- A service has led on, and its step, which wasn't counted at the trap, is one that words do before the next.
+pub record StepsOn (h to : Host) (from : State) (target : ℕ) : Type 0 where
+  pub going : IsGoing to from target
+  pub more : count h < going.state.steps + going.stretch.steps
 
 -- room for all objects
 abbrev pub HasRoomFor : (h : Host) (from : State) (target room : ℕ) → IsAtTrap h 1 from target → Type 0
@@ -92,14 +106,14 @@ HasRoomFor h from target room x = length x.state.things ≤ room
 
 abbrev pub DataTurns : Type 0
 DataTurns = (h : Host) (from : State) (target room : ℕ) → (x : IsAtTrap h 1 from target) → HasRoomFor h from target room x → (cost word : ℕ) → data_word (whole h) (found_here room h) ≡ Some word
-    → IsGoing (data_answers (target - count h - 1) cost word h) from target
+    → StepsOn h (data_answers (target - count h - 1) cost word h) from target
 
 abbrev pub FieldsAreRead : Type 0
 FieldsAreRead = (h : Host) (from : State) (target room : ℕ) → (x : IsAtTrap h 1 from target) → HasRoomFor h from target room x → (holder place : ℕ) → (found_here room h ≡ One holder (Field place)) ⊎ (found_here room h ≡ One holder (Assign place)) → HasWord (holder + 7 + 4 * place)
 
 abbrev pub AssignmentsTurn : Type 0
 AssignmentsTurn = (h : Host) (from : State) (target room : ℕ) → (x : IsAtTrap h 1 from target) → HasRoomFor h from target room x → (cost holder place : ℕ) → found_here room h ≡ One holder (Assign place)
-    → IsGoing (assigns (target - count h - 1) cost (holder + 7 + 4 * place) h) from target
+    → StepsOn h (assigns (target - count h - 1) cost (holder + 7 + 4 * place) h) from target
 
 abbrev pub MissesEnd : Type 0
 MissesEnd = (h : Host) (from : State) (target room : ℕ) → (x : IsAtTrap h 1 from target) → HasRoomFor h from target room x → (goal cost : ℕ) (e : ErrorName) → goal ≤ 1000000000 → error_of (found_here room h) ≡ Some e
@@ -112,7 +126,7 @@ MethodsAreThere = (h : Host) (from : State) (target room : ℕ) → (x : IsAtTra
 
 abbrev pub CallsTurn : Type 0
 CallsTurn = (h : Host) (from : State) (target room : ℕ) → (x : IsAtTrap h 1 from target) → HasRoomFor h from target room x → (cost holder at : ℕ) (c : BodyId) → found_here room h ≡ One holder (Method c)
-    → slice_get h.entries (c.0 - 1) ≡ Some at → at ≢ 0 → h.machine.regs 4 < 4096 → IsGoing (calls (target - count h) cost at holder h) from target
+    → slice_get h.entries (c.0 - 1) ≡ Some at → at ≢ 0 → h.machine.regs 4 < 4096 → StepsOn h (calls (target - count h) cost at holder h) from target
 
 abbrev pub OverflowsEnd : Type 0
 OverflowsEnd = (h : Host) (from : State) (target room : ℕ) → (x : IsAtTrap h 1 from target) → HasRoomFor h from target room x → (goal cost holder at : ℕ) (c : BodyId) → goal ≤ 1000000000 → found_here room h ≡ One holder (Method c)
@@ -127,7 +141,13 @@ abbrev pub UnitsFit : Type 0
 UnitsFit = (h : Host) (from : State) (target room : ℕ) → (x : IsAtTrap h 1 from target) → HasRoomFor h from target room x → (holder : ℕ) (c : BodyId) → found_here room h ≡ One holder (Method c)
     → slice_get h.entries (c.0 - 1) ≡ Some 0 → is_blockless (body_in h.bodies c.0) ≡ true → next_unit h + 4 * length (unit_code h.references (body_in h.bodies c.0)) ≤ 0x12000000
 
+-- The unit was put, and the node's words begin again: no fewer steps are counted, and one body fewer has no unit.
+pub record BeginsAgain (h to : Host) (from : State) (target : ℕ) : Type 0 where
+  pub going : IsGoing to from target
+  pub same : count h ≤ going.state.steps + going.stretch.steps
+  pub fewer : unmade to.entries < unmade h.entries
+
 abbrev pub UnitsTurn : Type 0
 UnitsTurn = (h : Host) (from : State) (target room : ℕ) → (x : IsAtTrap h 1 from target) → HasRoomFor h from target room x → (a : IsAsked h target room) → (cost holder : ℕ) (c : BodyId) → found_here room h ≡ One holder (Method c)
     → slice_get h.entries (c.0 - 1) ≡ Some 0 → is_blockless (body_in h.bodies c.0) ≡ true → (memory : Words) → IsPut h c.0 memory
-    → IsGoing (goes_back (behind_poll a.selector.args) (target - count h) cost (with_unit c.0 memory h)) from target
+    → BeginsAgain h (goes_back (behind_poll a.selector.args) (target - count h) cost (with_unit c.0 memory h)) from target

@@ -1,5 +1,5 @@
 // Laws of turns.
-ghost use Rattle.plain_turns.specs.Turns.{AnswersEnd, AssignmentsTurn, CallsTurn, DataTurns, FieldsAreRead, GoalsEnd, MessagesAsk, MethodsAreThere, MissesEnd, OverflowsEnd, PrimitivesEnd, ReturnsEnd, RunsBegin, RunsCome, TrapsTell, UnbuiltEnd, UnitsFit, UnitsTurn};
+ghost use Rattle.plain_turns.specs.Turns.{AnswersEnd, AssignmentsTurn, CallsTurn, DataTurns, FieldsAreRead, GoalsEnd, MessagesAsk, MethodsAreThere, MissesEnd, ObjectsCount, OverflowsEnd, PrimitivesEnd, ReturnsEnd, RunsBegin, RunsCome, TrapsTell, UnbuiltEnd, UnitsFit, UnitsTurn};
 
 /// A law: a run begins at the poll at which the current activity rests.
 pub fn runs_begin()
@@ -10,6 +10,7 @@ pub fn runs_begin()
 pub fn runs_come()
     ensures come { RunsCome }
     ensures tell { TrapsTell }
+    ensures objects { ObjectsCount }
 {}
 
 /// A law: a run ends where its goal is met, where the oldest activation answers, and where a service isn't built.
