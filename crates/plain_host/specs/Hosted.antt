@@ -1,5 +1,5 @@
 -- What a host holds, and which host that is.
-use Rattle.std.specs.Prelude.{ℕ, List}
+use Rattle.std.specs.Prelude.{ℕ, ◌+◌, ◌-◌, List}
 use Rattle.self_terms.specs.declared.bodies.Body.{Body}
 use Rattle.object_maps.specs.declared.maps.SlotKind.{SlotKind}
 use Rattle.sparc_machine.specs.Held.{Held, state}
@@ -7,6 +7,7 @@ use Rattle.plain_words.specs.declared.references.References.{References}
 use Rattle.plain_words.specs.declared.units.Point.{Point}
 use Rattle.plain_runs.specs.declared.status.Status.{Status}
 use Rattle.plain_runs.specs.Host.{Host}
+use Rattle.plain_runs.specs.Services.{settled}
 
 pub record Hosted : Type 0 where
   pub machine : Held
@@ -36,3 +37,9 @@ host h = record {
   steps = h.steps;
   cost = h.cost;
 }
+
+-- the counts are settled, and the machine is so many bytes before
+abbrev pub goes_back : ℕ → ℕ → ℕ → Host → Host
+goes_back bytes goal cost h =
+    let s = settled goal cost h in
+    record s { machine = record s.machine { pc = h.machine.pc - bytes; npc = h.machine.pc - bytes + 4 } }

@@ -1,6 +1,6 @@
 //! The machine with what its host keeps beside it.
 ghost use Rattle.plain_host.specs.Hosted.{host};
-ghost use Rattle.std.specs.Prelude.{◌≡◌, ◌<◌, ◌≤◌, ◌+◌, ◌-◌, ◌^◌, length, slice_get};
+ghost use Rattle.std.specs.Prelude.{◌≡◌, ◌<◌, ◌≤◌, ◌+◌, ◌-◌, ◌^◌, length, slice_get, Some};
 ghost use Rattle.source_model.specs.Soundness.{body_in};
 ghost use Rattle.sparc_store.specs.Words.{word_at, HasWord};
 ghost use Rattle.sparc_machine.specs.State.{IsWhole};
@@ -201,6 +201,24 @@ impl Hosting {
         ensures { result ≡ (host self.now).cost + (host self.now).machine.regs 3 }
     {
         self.cost + self.machine.get(3) as u64
+    }
+
+    /// The reference to the lobby.
+    pub fn lobby(&self) -> u32
+        requires { 0 < length (host self.now).references.objects }
+        ensures { slice_get (host self.now).references.objects 0 ≡ Some result }
+    {
+        match self.references.objects.as_slice().get(0) {
+            Some(word) => *word,
+            None => unreachable!(),
+        }
+    }
+
+    /// The next object's number.
+    pub fn next(&self) -> u32
+        ensures { result ≡ (host self.now).next }
+    {
+        self.next
     }
 
     /// Does so many instructions, or those before the first trap, at which the machine is left. Nothing changes beside the machine.

@@ -1,8 +1,8 @@
 //! The services. Each begins to count anew, with so many steps of the goal and so much of the cost left.
-ghost use Rattle.plain_host.specs.Hosted.{host};
 ghost use Rattle.std.specs.Prelude.{◌≡◌, ◌<◌, ◌≤◌, ◌+◌, ◌^◌, length, slice_set};
 ghost use Rattle.sparc_store.specs.Words.{HasWord};
 ghost use Rattle.plain_runs.specs.Services.{settled, passed, data_answers, assigns, handed, calls, waits, ends, fails};
+ghost use Rattle.plain_host.specs.Hosted.{host, goes_back};
 
 use crate::hosting::Hosting;
 use plain_runs::Status;
@@ -99,6 +99,19 @@ impl Hosting {
         self.settle(goal, cost);
         let poll = self.machine.pc() - 20;
         self.machine.go_to(poll);
+    }
+
+    /// The counts are settled, and the machine goes back so many bytes.
+    pub fn go_back(&mut self, goal: u32, cost: u32, bytes: u32)
+        requires steps { (host self.old).steps < 2 ^ 62 }
+        requires cost { (host self.old).cost < 2 ^ 62 }
+        requires within { bytes ≤ (host self.old).machine.pc }
+        requires low { (host self.old).machine.pc + 4 < 2 ^ 32 }
+        ensures { host self.new ≡ goes_back bytes goal cost (host self.old) }
+    {
+        self.settle(goal, cost);
+        let to = self.machine.pc() - bytes;
+        self.machine.go_to(to);
     }
 
     // How the current activity stands from now on.
