@@ -14,3 +14,4 @@ pub mod Shown
 pub mod Growing
 pub mod Emitted
 pub mod Insns
+pub mod Making

@@ -3,11 +3,12 @@ ghost use Rattle.std.specs.Prelude.{◌≡◌, List, ◌++◌, true, false, leng
 ghost use Rattle.self_terms.specs.Words.{IsSmall, word_of};
 ghost use Rattle.sparc_store.specs.Words.{word_at};
 ghost use Rattle.sparc_machine.specs.State.{MachineState};
+ghost use Rattle.sparc_machine.specs.Alu.{add};
 ghost use Rattle.frame_walk.specs.Places.{pending_offset};
-ghost use Rattle.plain_words.specs.Code.{constant_code, self_code, drop_code, read_code, store_code, send_code, implied_code, answered_code, is_sum, sum_code, primitive_code, non_local_code, return_code, method_code};
+ghost use Rattle.plain_words.specs.Code.{constant_code, self_code, drop_code, read_code, store_code, send_code, implied_code, answered_code, is_sum, sum_code, primitive_code, non_local_code, return_code, block_code, method_code};
 ghost use Rattle.plain_words.specs.Units.{unit_code};
 ghost use Rattle.plain_words.specs.Showing.{PendedShows, LeftShows};
-ghost use Rattle.plain_words.specs.Moves.{IsReady, Does, pended, HasLocal, local_address, assigned, Asks, handed_receiver, first_handed, handed_argument, summed, overflows, Ends, CanReturn, HasContext, unmarked, CanEnter, Enters, entered_memory};
+ghost use Rattle.plain_words.specs.Moves.{IsReady, Does, pended, HasLocal, local_address, assigned, Asks, handed_receiver, first_handed, handed_argument, summed, overflows, Ends, CanReturn, HasContext, unmarked, HasRoom, cost_left, block_made, Makes, IsFull, CanEnter, Enters, entered_memory};
 
 /// The words of a constant pend it.
 pub fn constants_are_pended()
@@ -73,6 +74,12 @@ pub fn home_returns_are_asked()
 /// Those of a return lead to the caller's frame, with the answer in its %o0, and put 0 for the mark of the activation's context.
 pub fn activations_return()
     ensures { (m : MachineState) (p words : ℕ) (owns : Bool) (locals k : ℕ) → IsReady m p words (return_code owns locals k) → 27 + locals + k < words → HasContext m owns → CanReturn m → Ends m (unmarked m owns) (word_at m.memory (m.regs 14 + pending_offset locals k)) }
+{}
+
+/// Those of a block literal put a block at the heap's top and pend it, where so much is left of the plain cost; else they come to service 8.
+pub fn blocks_are_made()
+    ensures made { (m : MachineState) (p words locals k map body : ℕ) → IsReady m p words (block_code locals k map body) → 27 + locals + k < words → HasRoom (m.regs 6) 4 → add (m.regs 3) 4 ≤ cost_left m → Makes m p 4 (block_code locals k map body) (block_made m locals k map body) }
+    ensures full { (m : MachineState) (p words locals k map body : ℕ) → IsReady m p words (block_code locals k map body) → cost_left m < add (m.regs 3) 4 → IsFull m (p + 48) }
 {}
 
 /// Those before a method's first node lead into it: its frame is made and filled, and the activation and the step are counted.
