@@ -15,3 +15,5 @@ pub mod Growing
 pub mod Emitted
 pub mod Insns
 pub mod Making
+pub mod Entering
+pub mod ByKind

@@ -124,7 +124,7 @@ apart_two : (r : ℕ) → is_scratch r ≡ false → nat_eq r 2 ≡ false
 apart_two r h = grind (arith, common_steps)
 
 -- the words of a block, which are put together of two parts each
-abbrev joined : ℕ → ℕ
+abbrev pub joined : ℕ → ℕ
 joined w = bit_or (w / 1024 * 2 ^ 10) (w % 1024)
 
 memory_made : (m : MachineState) (words locals k map body : ℕ) → HasRoom (m.regs 6) 4 → IsPlaced (m.regs 14) (pending_offset locals k)
