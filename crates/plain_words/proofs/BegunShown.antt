@@ -1,17 +1,17 @@
 -- What the frame in view shows when an activation with a context has begun.
-use Rattle.std.proofs.Common.{◌≡◌, ℕ, ◌+◌, ◌*◌, ◌<◌, ◌≤◌, refl, ◌∙◌, ap, sym, subst, arith, inl, inr, length-append}
-use Rattle.std.specs.Prelude.{◌⊎◌, Bool, true, false, if◌then◌else◌, List, [], ◌∷◌, ◌++◌, length}
+use Rattle.std.proofs.Common.{◌≡◌, ℕ, ◌+◌, ◌*◌, refl, ◌∙◌, ap, sym, subst, arith, inl, inr, length-append}
+use Rattle.std.specs.Prelude.{Bool, true, false, if◌then◌else◌, List, [], ◌∷◌, ◌++◌, length}
 use Rattle.sparc_store.specs.Words.{Words, word_at, with_word, HasWord, IsWithin}
-use Rattle.sparc_store.specs.Windows.{IsPlace, with_room, is_full, words_of, oldest, oldest_at, with_spilled, CanSave}
+use Rattle.sparc_store.specs.Windows.{with_room, is_full, words_of, oldest, oldest_at, with_spilled}
 use Rattle.sparc_store.proofs.Framing.{frame_stays_within}
 use Rattle.sparc_store.proofs.Placed.{others_stay, put_there, put_stays_within}
-use Rattle.sparc_machine.specs.State.{MachineState, stack_of}
+use Rattle.sparc_machine.specs.State.{MachineState}
 use Rattle.frame_walk.specs.Places.{holder_offset}
 use Rattle.plain_words.specs.Moves.{HasRoom, registers_from, with_words, given_maker, given_receiver, given_holder}
 use Rattle.plain_words.specs.Showing.{BegunShows}
 use Rattle.plain_words.proofs.Placing.{placed}
 use Rattle.plain_words.proofs.Shown.{outside}
-use Rattle.plain_words.proofs.Prologue.{registers_long, full_six}
+use Rattle.plain_words.proofs.Prologue.{registers_long}
 use Rattle.plain_words.proofs.Stored.{words_others, words_put}
 
 spilled_within : (full : Bool) (memory : Words) (at : ℕ) (held : List (ℕ → ℕ)) → IsWithin memory → IsWithin (if full then with_spilled memory at held else memory)

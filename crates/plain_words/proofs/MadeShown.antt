@@ -1,8 +1,8 @@
 -- What the frame in view shows when a block was made.
-use Rattle.std.proofs.Common.{◌≡◌, ℕ, zero, suc, ◌+◌, ◌*◌, ◌<◌, ◌≤◌, refl, ◌∙◌, ap, subst, arith, inl, inr}
-use Rattle.std.specs.Prelude.{◌⊎◌, false, nat_eq, List, [], ◌∷◌, map as each, slice_index}
+use Rattle.std.proofs.Common.{◌≡◌, ℕ, zero, suc, ◌+◌, ◌*◌, ◌<◌, ◌≤◌, refl, ◌∙◌, ap, subst, arith, inr}
+use Rattle.std.specs.Prelude.{false, nat_eq, [], ◌∷◌, map as each}
 use Rattle.std.proofs.lemmas.Grind.{common_steps}
-use Rattle.sparc_store.specs.Words.{Words, word_at, with_word, HasWord}
+use Rattle.sparc_store.specs.Words.{Words, word_at, HasWord}
 use Rattle.sparc_store.specs.Windows.{kept}
 use Rattle.sparc_store.proofs.Placed.{others_stay, put_there}
 use Rattle.frame_walk.specs.Places.{shown, word_in_place, plain_descriptor, holder_offset, local_offset, pending_offset, slots_from, pending_places}
