@@ -10,9 +10,14 @@ use Rattle.plain_words.specs.Going.{At}
 use Rattle.plain_runs.specs.Host.{Host}
 use Rattle.plain_runs.specs.Sound.{ending_stub}
 
--- the references to the world's objects, and to its nil
+-- the references to the world's objects, and to its nil; it has no maps of blocks and contexts yet
 abbrev pub references_of : Image → References
-references_of i = record { objects = (places i.world).objects; nil = slice_index (places i.world).objects i.world.core.nil }
+references_of i = record {
+  objects = (places i.world).objects;
+  nil = slice_index (places i.world).objects i.world.core.nil;
+  contexts = 0;
+  blocks = [];
+}
 
 -- the host over a memory: no body has a unit, and there is no activity
 abbrev pub opened_host : Image → Words → Host

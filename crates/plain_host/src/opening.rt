@@ -8,7 +8,7 @@ ghost use Rattle.world_heap.specs.Heaps.{heap_of};
 use crate::hosting::{ENDING_STUB, Hosting};
 use object_maps::Heap;
 use plain_words::References;
-use self_terms::OutOfMemory;
+use self_terms::{OutOfMemory, Row};
 use sparc_insn::{Insn, encode};
 use sparc_machine::Machine;
 use sparc_store::Memory;
@@ -46,7 +46,12 @@ fn references_of(alloc: Global, image: &WorldImage) -> Result<References, OutOfM
         Some(word) => *word,
         None => 0,
     };
-    Ok(References { objects, nil })
+    Ok(References {
+        objects,
+        nil,
+        contexts: 0,
+        blocks: Row::open(alloc),
+    })
 }
 
 #[tactic(auto, unfolding(crate::specs::Hosted::host))]

@@ -10,7 +10,7 @@ use Rattle.plain_words.specs.declared.references.References.{References}
 use Rattle.plain_words.specs.declared.units.Point.{Point}
 use Rattle.plain_words.specs.Units.{times, deepest, larger, nodes_code, nodes_points, node_code, node_points, entry_code, unit_code, unit_points, owns_context, frame_locals}
 use Rattle.sparc_insn.specs.declared.insn.Insn.{Insn}
-use Rattle.plain_words.specs.Code.{load, store, take, walk, arguments_code, argument_stores, initial_stores, poll}
+use Rattle.plain_words.specs.Code.{load, store, take, walk, arguments_code, argument_stores, initial_stores, cell_offset, cell_arguments, cell_initials, poll}
 use Rattle.frame_walk.specs.Places.{local_offset}
 
 walk_suc : (n : ℕ) → walk n ++ (load 1 1 3 ∷ []) ≡ walk (suc n)
@@ -39,6 +39,16 @@ stores_suc (suc n) register slot t j e f = ap (λ l. store register 14 (local_of
 
 pub stores_more : (n register slot t j : ℕ) → t ≡ register + n → j ≡ slot + n → argument_stores register slot n ++ (store t 14 (local_offset j) ∷ []) ≡ argument_stores register slot (n + 1)
 stores_more n register slot t j e f = let one : suc n ≡ n + 1 = omega arith in stores_suc n register slot t j e f ∙ ap (argument_stores register slot) one
+
+cells_suc : (n register slot t j : ℕ) → t ≡ register + n → j ≡ slot + n → cell_arguments register slot n ++ (store t 6 (cell_offset j) ∷ []) ≡ cell_arguments register slot (suc n)
+cells_suc zero register slot t j e f =
+    let et : t ≡ register = omega arith in
+    let ej : j ≡ slot = omega arith in
+    cc
+cells_suc (suc n) register slot t j e f = ap (λ l. store register 6 (cell_offset slot) ∷ l) (cells_suc n (register + 1) (slot + 1) t j (omega arith) (omega arith))
+
+pub cells_more : (n register slot t j : ℕ) → t ≡ register + n → j ≡ slot + n → cell_arguments register slot n ++ (store t 6 (cell_offset j) ∷ []) ≡ cell_arguments register slot (n + 1)
+cells_more n register slot t j e f = let one : suc n ≡ n + 1 = omega arith in cells_suc n register slot t j e f ∙ ap (cell_arguments register slot) one
 
 times_suc : (n : ℕ) (p : Point) → times n p ++ (p ∷ []) ≡ times (suc n) p
 times_suc zero p = refl
@@ -92,6 +102,13 @@ initial_next slot j next k w ws old new e f g h =
     let front = initial_stores j (w ∷ []) in
     let rest = initial_stores (j + 1) (drop (k + 1) ws) in
     ap (λ n. new ++ initial_stores n (drop (k + 1) ws)) g ∙ ap (λ l. l ++ rest) h ∙ append_assoc old front rest ∙ sym (ap (λ l. old ++ initial_stores j l) (drop_here ws k w e))
+
+pub cell_next : (slot j next k w : ℕ) (ws : List ℕ) (old new : List Insn) → slice_get ws k ≡ Some w → j ≡ slot + k → next ≡ j + 1 → new ≡ old ++ cell_initials j (w ∷ [])
+    → new ++ cell_initials next (drop (k + 1) ws) ≡ old ++ cell_initials j (drop k ws)
+cell_next slot j next k w ws old new e f g h =
+    let front = cell_initials j (w ∷ []) in
+    let rest = cell_initials (j + 1) (drop (k + 1) ws) in
+    ap (λ n. new ++ cell_initials n (drop (k + 1) ws)) g ∙ ap (λ l. l ++ rest) h ∙ append_assoc old front rest ∙ sym (ap (λ l. old ++ cell_initials j l) (drop_here ws k w e))
 
 -- How many values are pending before the next node.
 from_zero : (ns : List Node) (d : ℕ) → depth_from d ns 0 ≡ d
@@ -176,8 +193,14 @@ counted a b x p q w ep eb eq ew =
     let lp : length p ≡ length a = ap length ep in
     omega arith
 
-pub entry_joins : (old a b c d e F H K S I E : List Insn) → a ≡ old ++ (F ++ H) → b ≡ a ++ K → c ≡ b ++ S → d ≡ c ++ I → e ≡ d ++ E → e ≡ old ++ (F ++ (H ++ ((K ++ S) ++ (I ++ E))))
-entry_joins old a b c d e F H K S I E ea eb ec ed ee = rw (ee, ed, ec, eb, ea) simp append_assoc
+pub four_join : (old a b c d K S I E : List Insn) → a ≡ old ++ K → b ≡ a ++ S → c ≡ b ++ I → d ≡ c ++ E → d ≡ (old ++ (K ++ S)) ++ (I ++ E)
+four_join old a b c d K S I E ea eb ec ed = rw (ed, ec, eb, ea) simp append_assoc
+
+pub three_join : (old a b c F H K : List Insn) → a ≡ old ++ F → b ≡ a ++ H → c ≡ b ++ K → c ≡ old ++ (F ++ (H ++ K))
+three_join old a b c F H K ea eb ec = rw (ec, eb, ea) simp append_assoc
+
+pub kept_join : (old a b c H X Y : List Insn) (i : Insn) → a ≡ old ++ (i ∷ []) → b ≡ a ++ H → c ≡ (b ++ X) ++ Y → c ≡ old ++ ((i ∷ H ++ X) ++ Y)
+kept_join old a b c H X Y i ea eb ec = rw (ec, eb, ea) simp append_assoc
 
 pub map_get : {A : Type 0} {B : Type 0} (f : A → B) (xs : List A) (k : ℕ) (x : A) → slice_get xs k ≡ Some x → slice_get (map f xs) k ≡ Some (f x)
 map_get f [] k x e = cc

@@ -1,6 +1,6 @@
 -- The words of units are instructions of the table.
 use Rattle.std.proofs.Common.{◌≡◌, ℕ, zero, suc, ◌+◌, ◌-◌, ◌*◌, ◌^◌, ◌<◌, ◌≤◌, refl, subst, arith}
-use Rattle.std.specs.Prelude.{Some, Bool, true, false, not, nat_eq, if◌then◌else◌, List, [], ◌∷◌, ◌++◌, slice_get, length, map, ℤ, pos, negsuc}
+use Rattle.std.specs.Prelude.{Some, Bool, true, false, not, nat_eq, if◌then◌else◌, List, [], ◌∷◌, ◌++◌, slice_get, slice_index, length, map, ℤ, pos, negsuc}
 use Rattle.std.proofs.lemmas.Grind.{common_steps}
 use Rattle.self_terms.specs.declared.nodes.Node.{Node}
 use Rattle.self_terms.specs.declared.nodes.Node.TheVariants as nodes
@@ -17,11 +17,11 @@ use Rattle.sparc_insn.specs.declared.insn.Operand.TheVariants.{Reg}
 use Rattle.sparc_insn.specs.Words.{IsInsn}
 use Rattle.frame_walk.specs.Places.{local_offset}
 use Rattle.plain_words.specs.declared.references.References.{References}
-use Rattle.plain_words.specs.Code.{poll, count, plus, holder_code, load, store, take, pend, constant_code, self_code, walk, reach, read_code, store_code, base_of, offset_of, arguments_code, handed_code, answered_code, is_sum, sum_op, summed_code, sum_code, primitive_code, return_code, non_local_code, argument_stores, initial_stores, kept_code, frame_code}
-use Rattle.plain_words.specs.Units.{node_code, restart_code, failing_code, nodes_code, entry_code, unit_code, datum_word, object_word, initial_words, frame_words, frame_locals, owns_context, deepest, larger}
+use Rattle.plain_words.specs.Code.{poll, count, plus, load, store, take, pend, constant_code, self_code, walk, reach, read_code, store_code, base_of, offset_of, arguments_code, handed_code, answered_code, is_sum, sum_op, summed_code, sum_code, primitive_code, return_code, non_local_code, set_word, move, refer, fits_code, made_code, block_code, argument_stores, initial_stores, frame_code, cell_offset, cell_arguments, cell_initials, context_head, context_end, start_code, no_maker, entry_kept}
+use Rattle.plain_words.specs.Units.{node_code, restart_code, nodes_code, numbered, block_map, of_block, entry_code, unit_code, datum_word, object_word, initial_words, frame_words, frame_locals, owns_context, deepest, larger}
 use Rattle.plain_words.specs.Translating.{IsShort, AreShort, IsSmallDatum, CanTranslate, AreWords}
 use Rattle.plain_words.specs.Putting.{AreInsns}
-use Rattle.plain_words.proofs.Long.{node_long}
+use Rattle.plain_words.proofs.Long.{node_long, initial_long}
 
 -- each by itself
 abbrev Each : List Insn → Type 0
@@ -150,8 +150,45 @@ non_local_each locals k h = (take_is 8 locals k (omega arith) h, ((omega arith, 
 restart_each : (back : ℕ) → 0 < back → back ≤ 2000000 → Each (restart_code back)
 restart_each back s h = ((omega arith, omega arith), (count_is, tt))
 
-failing_each : Each failing_code
-failing_each = ((omega arith, omega arith), tt)
+set_each : (to w : ℕ) → to < 32 → w < 2 ^ 32 → Each (set_word to w)
+set_each to w t s = ((omega arith, omega arith), ((omega arith, omega arith, omega arith, tt), tt))
+
+plus_is : (r n : ℕ) → r < 32 → n < 4096 → IsInsn (plus r n)
+plus_is r n t h = (omega arith, omega arith, omega arith, tt)
+
+refer_is : (to : ℕ) → to < 32 → IsInsn (refer to)
+refer_is to t = (omega arith, omega arith, omega arith, tt)
+
+fits_each : (words : ℕ) → words < 4096 → Each (fits_code words)
+fits_each words h = (
+  (omega arith, omega arith),
+  (
+    load_is 1 1 4 (omega arith) (omega arith) (omega arith),
+    ((omega arith, omega arith, omega arith, tt), ((omega arith, omega arith, omega arith, tt), ((omega arith, omega arith), ((omega arith, omega arith), ((omega arith, omega arith), tt))))),
+  ),
+)
+
+made_each : (locals k map body : ℕ) → locals + k ≤ 512 → map < 2 ^ 32 → body < 2 ^ 32 → Each (made_code locals k map body)
+made_each locals k map body h m b =
+    let last = store 1 6 4 ∷ store 17 6 8 ∷ store 24 6 12 ∷ refer 1 ∷ pend 1 locals k ∷ plus 6 16 ∷ plus 3 4 ∷ count ∷ [] in
+    let ends : Each last = (
+      store_is 1 6 4 (omega arith) (omega arith) (omega arith),
+      (
+        store_is 17 6 8 (omega arith) (omega arith) (omega arith),
+        (
+          store_is 24 6 12 (omega arith) (omega arith) (omega arith),
+          (refer_is 1 (omega arith), (pend_is 1 locals k (omega arith) h, (plus_is 6 16 (omega arith) (omega arith), (plus_is 3 4 (omega arith) (omega arith), (count_is, tt))))),
+        ),
+      ),
+    ) in
+    both (set_word 1 map) (store 1 6 0 ∷ set_word 1 body ++ last) (set_each 1 map (omega arith) m)
+    (store_is 1 6 0 (omega arith) (omega arith) (omega arith), both (set_word 1 body) last (set_each 1 body (omega arith) b) ends)
+
+block_each : (locals k map body : ℕ) → locals + k ≤ 512 → map < 2 ^ 32 → body < 2 ^ 32 → Each (block_code locals k map body)
+block_each locals k map body h m b = both (fits_code 4) (made_code locals k map body) (fits_each 4 (omega arith)) (made_each locals k map body h m b)
+
+numbered_small : (n : ℕ) → numbered n < 2 ^ 32
+numbered_small n = omega arith
 
 word_small : (z : ℤ) → IsSmall z → word_of z < 2 ^ 32
 word_small (pos n) h = omega arith
@@ -173,7 +210,7 @@ bare_each r owns locals at nodes.Restart k w h n s = restart_each (at + 6) (omeg
 bare_each r owns locals at nodes.Return k w h n s = return_each owns locals (k - 1) (omega arith)
 bare_each r owns locals at nodes.NonLocal k w h n s = non_local_each locals (k - 1) (omega arith)
 bare_each r owns locals at nodes.End k w h n s = return_each owns locals (k - 1) (omega arith)
-bare_each r owns locals at (nodes.BlockLit b) k w h n s = failing_each
+bare_each r owns locals at (nodes.BlockLit b) k w h n s = block_each locals k (block_map r b.0) (numbered b.0) (omega arith) (numbered_small (slice_index r.blocks (b.0 - 1))) (numbered_small b.0)
 bare_each r owns locals at (nodes.Prim name args implied handler) k w h n s =
     let first = k - (args + one_if (not implied) + one_if handler) in
     primitive_each name.0 args implied locals first (args + one_if handler) first s (omega arith) (omega arith)
@@ -234,33 +271,68 @@ deep_from : (b : Body) → CanTranslate b → (k : ℕ) → depth_from 0 b.nodes
 unfolding depth
 deep_from b can k = can.deep k
 
+cell_argument_each : (register slot n : ℕ) → register + n ≤ 32 → slot + n ≤ 512 → Each (cell_arguments register slot n)
+cell_argument_each register slot zero h r = tt
+cell_argument_each register slot (suc n) h r = (store_is register 6 (cell_offset slot) (omega arith) (omega arith) (omega arith), cell_argument_each (register + 1) (slot + 1) n (omega arith) (omega arith))
+
+cell_initial_each : (r : References) (slot : ℕ) (xs : List Local) → AreWords r → slot + length xs ≤ 512 → ((k : ℕ) (x : Local) → slice_get xs k ≡ Some x → IsSmallDatum x.initial) → Each (cell_initials slot (map (λ x. datum_word r x.initial) xs))
+cell_initial_each r slot [] w h s = tt
+cell_initial_each r slot (x ∷ xs) w h s =
+    let small = datum_small r x.initial w (s 0 x refl) in
+    both (set_word 1 (datum_word r x.initial)) (store 1 6 (cell_offset slot) ∷ cell_initials (slot + 1) (map (λ y. datum_word r y.initial) xs)) (set_each 1 (datum_word r x.initial) (omega arith) small)
+    (store_is 1 6 (cell_offset slot) (omega arith) (omega arith) (omega arith), cell_initial_each r (slot + 1) xs w (omega arith) (λ k y e. s (suc k) y e))
+
+start_each : (block : Bool) → Each (start_code block)
+start_each false = ((omega arith, omega arith, omega arith, tt), ((omega arith, omega arith), ((omega arith, omega arith, omega arith, tt), tt)))
+start_each true = (
+  load_is 16 24 7 (omega arith) (omega arith) (omega arith),
+  (load_is 5 16 7 (omega arith) (omega arith) (omega arith), (load_is 5 5 104 (omega arith) (omega arith) (omega arith), (load_is 24 24 11 (omega arith) (omega arith) (omega arith), tt))),
+)
+
+maker_each : (block : Bool) → Each (no_maker block)
+maker_each false = ((omega arith, omega arith, omega arith, tt), tt)
+maker_each true = tt
+
+head_each : (map : ℕ) → map < 2 ^ 32 → Each (context_head map)
+head_each map m =
+    both (set_word 1 map) (store 1 6 0 ∷ store 16 6 4 ∷ store 14 6 8 ∷ store 24 6 12 ∷ []) (set_each 1 map (omega arith) m) (
+      store_is 1 6 0 (omega arith) (omega arith) (omega arith),
+      (store_is 16 6 4 (omega arith) (omega arith) (omega arith), (store_is 14 6 8 (omega arith) (omega arith) (omega arith), (store_is 24 6 12 (omega arith) (omega arith) (omega arith), tt))),
+    )
+
+end_each : (words : ℕ) → words ≤ 1000 → Each (context_end words)
+end_each words h = (refer_is 17 (omega arith), (plus_is 6 (4 * words) (omega arith) (omega arith), (plus_is 3 words (omega arith) (omega arith), (plus_is 4 1 (omega arith) (omega arith), (count_is, tt)))))
+
+kept_each : (r : References) (b : Body) (owns block : Bool) → AreWords r → CanTranslate b → Each (entry_kept owns block (numbered r.contexts) (length b.arguments) (initial_words r b))
+kept_each r b false block w can =
+    let few = can.arguments in
+    let many = can.locals in
+    let n = length b.arguments in
+    both (store 5 14 104 ∷ no_maker block ++ (move 17 0 ∷ argument_stores 25 0 n)) (initial_stores n (initial_words r b) ++ (plus 4 1 ∷ count ∷ [])) (
+      store_is 5 14 104 (omega arith) (omega arith) (omega arith),
+      both (no_maker block) (move 17 0 ∷ argument_stores 25 0 n) (maker_each block) ((omega arith, omega arith, omega arith, tt), argument_each 25 0 n (omega arith) (omega arith)),
+    )
+    (both (initial_stores n (initial_words r b)) (plus 4 1 ∷ count ∷ []) (initial_each r n b.locals w (omega arith) can.initial) (plus_is 4 1 (omega arith) (omega arith), (count_is, tt)))
+kept_each r b true block w can =
+    let few = can.arguments in
+    let many = can.locals in
+    let n = length b.arguments in
+    let initial = initial_words r b in
+    let long : length initial ≡ length b.locals = initial_long r b.locals in
+    both (store 5 14 104 ∷ no_maker block ++ (context_head (numbered r.contexts) ++ cell_arguments 25 0 n)) (cell_initials n initial ++ context_end (4 + n + length initial)) (
+      store_is 5 14 104 (omega arith) (omega arith) (omega arith),
+      both (no_maker block) (context_head (numbered r.contexts) ++ cell_arguments 25 0 n) (maker_each block)
+          (both (context_head (numbered r.contexts)) (cell_arguments 25 0 n) (head_each (numbered r.contexts) (numbered_small r.contexts)) (cell_argument_each 25 0 n (omega arith) (omega arith))),
+    )
+    (both (cell_initials n initial) (context_end (4 + n + length initial)) (cell_initial_each r n b.locals w (omega arith) can.initial) (end_each (4 + n + length initial) (omega arith)))
+
 entry_each : (r : References) (b : Body) → AreWords r → CanTranslate b → Each (entry_code r b)
 entry_each r b w can =
     let deep : deepest 0 b.nodes ≤ 64 = deepest_small 0 b.nodes (deep_from b can) in
     let locals = locals_small b can.arguments can.locals in
-    let few = can.arguments in
-    let many = can.locals in
-    let n = length b.arguments in
-    both (frame_code (4 * frame_words b)) (holder_code ++ kept_code n (initial_words r b)) (frame_each (frame_words b) (omega arith) (omega arith)) (
-      (omega arith, omega arith, omega arith, tt),
-      (
-        (omega arith, omega arith),
-        (
-          (omega arith, omega arith, omega arith, tt),
-          (
-            store_is 5 14 104 (omega arith) (omega arith) (omega arith),
-            (
-              (omega arith, omega arith, omega arith, tt),
-              (
-                (omega arith, omega arith, omega arith, tt),
-                both (argument_stores 25 0 n) (initial_stores n (initial_words r b) ++ (plus 4 1 ∷ count ∷ [])) (argument_each 25 0 n (omega arith) (omega arith))
-                    (both (initial_stores n (initial_words r b)) (plus 4 1 ∷ count ∷ []) (initial_each r n b.locals w (omega arith) can.initial) ((omega arith, omega arith, omega arith, tt), (count_is, tt))),
-              ),
-            ),
-          ),
-        ),
-      ),
-    )
+    let kept = entry_kept (owns_context b) (of_block b) (numbered r.contexts) (length b.arguments) (initial_words r b) in
+    both (frame_code (4 * frame_words b)) (start_code (of_block b) ++ kept) (frame_each (frame_words b) (omega arith) (omega arith))
+    (both (start_code (of_block b)) kept (start_each (of_block b)) (kept_each r b (owns_context b) (of_block b) w can))
 
 pub unit_insns : (r : References) (b : Body) → AreWords r → CanTranslate b → AreInsns (unit_code r b)
 unit_insns r b w can =

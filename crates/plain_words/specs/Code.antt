@@ -2,7 +2,7 @@
 --
 -- %g2 counts the source steps since the last service, and the first word of the control region has what was left of the goal then.
 -- %g4 counts the activations of the activity. %g1, %g5, %g7 and the outs but %sp hold nothing at a poll.
-use Rattle.std.specs.Prelude.{ℕ, zero, suc, ◌+◌, ◌-◌, ◌*◌, ◌/◌, ◌%◌, Bool, true, false, ◌&&◌, ◌||◌, nat_eq, if◌then◌else◌, List, [], ◌∷◌, ◌++◌, pos, negsuc}
+use Rattle.std.specs.Prelude.{ℕ, zero, suc, ◌+◌, ◌-◌, ◌*◌, ◌/◌, ◌%◌, Bool, true, false, ◌&&◌, ◌||◌, nat_eq, if◌then◌else◌, List, [], ◌∷◌, ◌++◌, length, pos, negsuc}
 use Rattle.self_terms.specs.declared.names.TheConstants.{INT_ADD, INT_SUB}
 use Rattle.sparc_insn.specs.declared.insn.Insn.{Insn}
 use Rattle.sparc_insn.specs.declared.insn.Insn.TheVariants.{Sethi, Branch, Three, Trap}
@@ -148,6 +148,27 @@ return_code owns locals k =
 abbrev pub non_local_code : ℕ → ℕ → List Insn
 non_local_code locals k = take 8 locals k ∷ Trap 4 ∷ []
 
+-- Block literals. A block has four words: its map and the number of its body, both tagged, the reference to the context of its maker and the
+-- word of its receiver. %g6 is where the free heap begins, %g3 the plain cost since the last service; word 1 of the control region has what was
+-- left of the cost then.
+
+-- service 8 where so much more cost isn't left
+abbrev pub fits_code : ℕ → List Insn
+fits_code words =
+    Sethi 1 0xC0000 ∷ load 1 1 4 ∷ Three ops.Add 5 3 (Imm (pos words)) ∷ Three ops.SubCc 0 1 (Reg 5) ∷ Branch false 13 (pos 3) ∷ nop ∷ Trap 8 ∷ []
+
+-- the reference to what begins at %g6, in a register
+abbrev pub refer : ℕ → Insn
+refer to = Three ops.Add to 6 (Imm (pos 1))
+
+-- a block of the activation, with these words of its map and of the number of its body, is put at the heap's top, and pended over k values
+abbrev pub made_code : ℕ → ℕ → ℕ → ℕ → List Insn
+made_code locals k map body =
+    set_word 1 map ++ (store 1 6 0 ∷ set_word 1 body ++ (store 1 6 4 ∷ store 17 6 8 ∷ store 24 6 12 ∷ refer 1 ∷ pend 1 locals k ∷ plus 6 16 ∷ plus 3 4 ∷ count ∷ []))
+
+abbrev pub block_code : ℕ → ℕ → ℕ → ℕ → List Insn
+block_code locals k map body = fits_code 4 ++ made_code locals k map body
+
 -- Entering. A method is entered with the receiver in %o0, arguments from %o1 on, the return address in %o7, and in %g5 the method holder's
 -- word, or 0 where that is the receiver. It makes its frame of so many bytes below the caller's, keeps the holder, the arguments and the
 -- initial contents of its other locals, and counts the activation and the step.
@@ -171,3 +192,53 @@ kept_code arguments initial =
 
 abbrev pub method_code : ℕ → ℕ → List ℕ → List Insn
 method_code bytes arguments initial = frame_code bytes ++ (holder_code ++ kept_code arguments initial)
+
+-- A block is entered likewise, with the block in %o0: its words name the context of its maker, which goes to %l0, and its receiver; the holder is
+-- in the frame that the context's mark names.
+abbrev pub maker_code : List Insn
+maker_code = load 16 24 7 ∷ load 5 16 7 ∷ load 5 5 holder_offset ∷ load 24 24 11 ∷ []
+
+abbrev pub start_code : Bool → List Insn
+start_code false = holder_code
+start_code true = maker_code
+
+-- a method has no maker
+abbrev pub no_maker : Bool → List Insn
+no_maker false = move 16 0 ∷ []
+no_maker true = []
+
+-- An activation with a context keeps nothing but the holder in its frame: the context is put at the heap's top. Its words are its map, tagged, the
+-- maker's context, the mark, which is %sp, the receiver, the arguments and the initial contents.
+abbrev pub cell_offset : ℕ → ℕ
+cell_offset slot = 16 + 4 * slot
+
+abbrev pub cell_arguments : ℕ → ℕ → ℕ → List Insn
+cell_arguments register slot zero = []
+cell_arguments register slot (suc n) = store register 6 (cell_offset slot) ∷ cell_arguments (register + 1) (slot + 1) n
+
+abbrev pub cell_initials : ℕ → List ℕ → List Insn
+cell_initials slot [] = []
+cell_initials slot (w ∷ ws) = set_word 1 w ++ (store 1 6 (cell_offset slot) ∷ cell_initials (slot + 1) ws)
+
+abbrev pub context_head : ℕ → List Insn
+context_head map = set_word 1 map ++ (store 1 6 0 ∷ store 16 6 4 ∷ store 14 6 8 ∷ store 24 6 12 ∷ [])
+
+-- a context of so many words stands there, and is the activation's own
+abbrev pub context_end : ℕ → List Insn
+context_end words = refer 17 ∷ plus 6 (4 * words) ∷ plus 3 words ∷ plus 4 1 ∷ count ∷ []
+
+-- What is kept of the entry of an activation, by whether it has a context and is a block's.
+abbrev pub kept_first : Bool → ℕ → ℕ → List Insn
+kept_first false map arguments = move 17 0 ∷ argument_stores 25 0 arguments
+kept_first true map arguments = context_head map ++ cell_arguments 25 0 arguments
+
+abbrev pub kept_last : Bool → ℕ → List ℕ → List Insn
+kept_last false arguments initial = initial_stores arguments initial ++ (plus 4 1 ∷ count ∷ [])
+kept_last true arguments initial = cell_initials arguments initial ++ context_end (4 + arguments + length initial)
+
+abbrev pub entry_kept : Bool → Bool → ℕ → ℕ → List ℕ → List Insn
+entry_kept owns block map arguments initial = (store 5 14 holder_offset ∷ no_maker block ++ kept_first owns map arguments) ++ kept_last owns arguments initial
+
+-- the words of an entry; those of a method without a context are `method_code`
+abbrev pub entered_code : Bool → Bool → ℕ → ℕ → ℕ → List ℕ → List Insn
+entered_code owns block bytes map arguments initial = frame_code bytes ++ (start_code block ++ entry_kept owns block map arguments initial)

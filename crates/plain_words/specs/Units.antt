@@ -1,5 +1,5 @@
 -- The unit of a body: the words of its entry, and then those of its nodes in their order; and what each of its words says of the frame.
-use Rattle.std.specs.Prelude.{ℕ, zero, suc, ◌+◌, ◌-◌, ◌*◌, ◌/◌, nat_le, Bool, not, if◌then◌else◌, List, [], ◌∷◌, ◌++◌, length, map}
+use Rattle.std.specs.Prelude.{ℕ, zero, suc, ◌+◌, ◌-◌, ◌*◌, ◌/◌, ◌%◌, ◌^◌, nat_le, Bool, not, is_some, if◌then◌else◌, List, [], ◌∷◌, ◌++◌, length, map}
 use Rattle.std.specs.List.{list_any}
 use Rattle.self_terms.specs.declared.nodes.Node.{Node}
 use Rattle.self_terms.specs.declared.nodes.Node.TheVariants as nodes
@@ -9,12 +9,12 @@ use Rattle.self_terms.specs.declared.values.Datum.TheVariants as datum
 use Rattle.self_terms.specs.Words.{word_of}
 use Rattle.self_terms.specs.Depths.{taken, grown, one_if}
 use Rattle.sparc_insn.specs.declared.insn.Insn.{Insn}
-use Rattle.sparc_insn.specs.declared.insn.Insn.TheVariants.{Branch, Trap}
+use Rattle.sparc_insn.specs.declared.insn.Insn.TheVariants.{Branch}
 use Rattle.std.specs.Prelude.{negsuc, false, true, slice_index}
 use Rattle.plain_words.specs.declared.references.References.{References}
 use Rattle.plain_words.specs.declared.units.Point.{Point}
 use Rattle.frame_walk.specs.Places.{Descriptor, plain_descriptor}
-use Rattle.plain_words.specs.Code.{poll, count, constant_code, self_code, read_code, store_code, drop_code, send_code, implied_code, answered_code, primitive_code, return_code, non_local_code, method_code}
+use Rattle.plain_words.specs.Code.{poll, count, constant_code, self_code, read_code, store_code, drop_code, send_code, implied_code, answered_code, primitive_code, return_code, non_local_code, block_code, entered_code}
 
 -- the reference to an object, by its number; 0 where there is none
 abbrev pub object_word : References → ℕ → ℕ
@@ -26,6 +26,13 @@ datum_word r (datum.Integer i) = word_of i
 datum_word r (datum.Object o) = object_word r o
 datum_word r datum.Nil = r.nil
 
+-- the word of a number, which is tagged, and that of the map of the blocks of a body
+abbrev pub numbered : ℕ → ℕ
+numbered n = 4 * n % 2 ^ 32
+
+abbrev pub block_map : References → ℕ → ℕ
+block_map r b = numbered (slice_index r.blocks (b - 1))
+
 -- a body whose activations have contexts: it has a block literal of its own
 abbrev pub is_block_literal : Node → Bool
 is_block_literal (nodes.BlockLit b) = true
@@ -33,6 +40,10 @@ is_block_literal _ = false
 
 abbrev pub owns_context : Body → Bool
 owns_context b = list_any is_block_literal b.nodes
+
+-- a block's body, which stands in another
+abbrev pub of_block : Body → Bool
+of_block b = is_some b.outer
 
 -- how many locals its frames keep, its arguments among them
 abbrev pub frame_locals : Body → ℕ
@@ -58,10 +69,6 @@ frame_words b = 2 * ((29 + frame_locals b + deepest 0 b.nodes) / 2)
 abbrev pub restart_code : ℕ → List Insn
 restart_code back = Branch false 8 (negsuc (back - 1)) ∷ count ∷ []
 
--- a node that isn't built yet
-abbrev pub failing_code : List Insn
-failing_code = Trap 8 ∷ []
-
 -- The words of a node behind its poll, which stands so many words behind that of the first node, over k pending values.
 abbrev pub node_code : References → Bool → ℕ → ℕ → Node → ℕ → List Insn
 node_code r owns locals at (nodes.Int i) k = constant_code locals k (word_of i)
@@ -79,7 +86,7 @@ node_code r owns locals at nodes.Restart k = restart_code (at + length poll)
 node_code r owns locals at nodes.Return k = return_code owns locals (k - 1)
 node_code r owns locals at nodes.NonLocal k = non_local_code locals (k - 1)
 node_code r owns locals at nodes.End k = return_code owns locals (k - 1)
-node_code r owns locals at (nodes.BlockLit b) k = failing_code
+node_code r owns locals at (nodes.BlockLit b) k = block_code locals k (block_map r b.0) (numbered b.0)
 node_code r owns locals at (nodes.Prim name args implied handler) k =
     let first = k - (args + one_if (not implied) + one_if handler) in
     primitive_code name.0 args implied locals first (args + one_if handler) ++ answered_code locals first
@@ -91,7 +98,12 @@ nodes_code r owns locals at k (n ∷ ns) =
     (poll ++ node_code r owns locals at n k) ++ nodes_code r owns locals (at + length (poll ++ node_code r owns locals at n k)) (grown n k) ns
 
 abbrev pub entry_code : References → Body → List Insn
-entry_code r b = method_code (4 * frame_words b) (length b.arguments) (initial_words r b)
+entry_code r b = entered_code (owns_context b) (of_block b) (4 * frame_words b) (numbered r.contexts) (length b.arguments) (initial_words r b)
+
+-- how many words it has beside those of arguments and locals, by whether a context is made
+abbrev pub entry_size : Bool → ℕ
+entry_size false = 9
+entry_size true = 17
 
 abbrev pub unit_code : References → Body → List Insn
 unit_code r b = entry_code r b ++ nodes_code r (owns_context b) (frame_locals b) 0 0 b.nodes

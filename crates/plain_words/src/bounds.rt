@@ -14,7 +14,7 @@ pub fn units_are_instructions()
 /// A unit has at most 64 words for each node where locals stand at most 54 bodies out, one more for each body further; 16 for each argument
 /// and local; and 64 more.
 pub fn units_are_short()
-    ensures { (out : ℕ) (r : References) (b : Body) → 7 ≤ out → AreShort out b.nodes → length (unit_code r b) ≤ (out + 10) * length b.nodes + 16 * (length b.arguments + length b.locals) + 64 }
+    ensures { (out : ℕ) (r : References) (b : Body) → 16 ≤ out → AreShort out b.nodes → length (unit_code r b) ≤ (out + 10) * length b.nodes + 16 * (length b.arguments + length b.locals) + 64 }
 {}
 
 /// A frame has at most 256 bytes, and 8 for each argument, local and pending value of its fullest point.

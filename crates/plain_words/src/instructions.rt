@@ -2,7 +2,7 @@
 ghost use Rattle.std.specs.Prelude.{◌≡◌, ◌≤◌, ◌+◌, ◌<◌, ◌^◌};
 ghost use Rattle.sparc_insn.specs.declared.insn.Insn.{Insn};
 ghost use Rattle.frame_walk.specs.Places.{local_offset, pending_offset};
-ghost use Rattle.plain_words.specs.Code.{load, store, move, plus, nop, count, take, pend, context_offset, base_of, offset_of, poll};
+ghost use Rattle.plain_words.specs.Code.{load, store, move, plus, refer, nop, count, take, pend, context_offset, cell_offset, base_of, offset_of, poll};
 
 use sparc_insn::{Insn, Op3, Operand};
 
@@ -55,11 +55,26 @@ pub(crate) fn copy(to: u8, from: u8) -> Insn
     with_number(Op3::Or, to, from, 0)
 }
 
-// One is added to a register.
+// A number is added to a register.
+pub(crate) fn plus(register: u8, number: u32) -> Insn
+    requires { number < 4096 }
+    ensures { result ≡ plus register number }
+{
+    with_number(Op3::Add, register, register, number as i32)
+}
+
+// One is.
 pub(crate) fn plus_one(register: u8) -> Insn
     ensures { result ≡ plus register 1 }
 {
-    with_number(Op3::Add, register, register, 1)
+    plus(register, 1)
+}
+
+// The reference to what begins at %g6, in a register.
+pub(crate) fn refer(to: u8) -> Insn
+    ensures { result ≡ refer to }
+{
+    with_number(Op3::Add, to, 6, 1)
 }
 
 // One step is counted.
@@ -91,6 +106,14 @@ pub(crate) fn local_offset(slot: u32) -> u32
     ensures { result ≡ local_offset slot }
 {
     108 + 4 * slot
+}
+
+// Bytes from the beginning of a context to a local.
+pub(crate) fn cell_offset(slot: u32) -> u32
+    requires { slot < 512 }
+    ensures { result ≡ cell_offset slot }
+{
+    16 + 4 * slot
 }
 
 // The register from which the place of a local is counted.

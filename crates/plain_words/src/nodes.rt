@@ -1,13 +1,14 @@
 //! The words of each kind of node, behind those that there are.
 ghost use Rattle.std.specs.Prelude.{◌≡◌, ◌++◌, ◌+◌, ◌-◌, ◌*◌, ◌≤◌, ◌<◌, OnOk};
-ghost use Rattle.plain_words.specs.Code.{poll, set_word, constant_code, self_code, read_code, store_code, reach, walk, arguments_code, handed_code, send_code, implied_code, answered_code, is_sum, sum_op, summed_code, primitive_code, return_code, non_local_code, ended_context};
-ghost use Rattle.plain_words.specs.Units.{node_code, restart_code, failing_code};
+ghost use Rattle.plain_words.specs.Code.{poll, set_word, constant_code, self_code, read_code, store_code, reach, walk, arguments_code, handed_code, send_code, implied_code, answered_code, is_sum, sum_op, summed_code, primitive_code, return_code, non_local_code, ended_context, fits_code, refer, made_code, block_code};
+ghost use Rattle.plain_words.specs.Units.{node_code, restart_code};
 ghost use Rattle.plain_words.specs.Translating.{IsShort};
 
 use crate::instructions::{
-    NOP, base_of, copy, count, load, offset_of, pend, poll, store, take, with_number, with_register,
+    NOP, base_of, copy, count, load, offset_of, pend, plus, poll, refer, store, take, with_number,
+    with_register,
 };
-use crate::references::References;
+use crate::references::{References, numbered};
 use self_terms::{INT_ADD, INT_SUB, Name, Node, OutOfMemory, word_of_int};
 use sparc_insn::{Insn, Op3};
 
@@ -265,6 +266,70 @@ fn put_non_local(code: &mut Vec<Insn>, locals: u32, k: u32) -> Result<(), OutOfM
     put(code, &[take(8, locals, k), Insn::Trap { number: 4 }])
 }
 
+// Service 8 where so much more cost isn't left.
+fn fits_code(words: u32) -> [Insn; 7]
+    requires { words < 4096 }
+    ensures { result ≡ fits_code words }
+{
+    [
+        Insn::Sethi {
+            rd: 1,
+            imm: 0xC0000,
+        },
+        load(1, 1, 4),
+        with_number(Op3::Add, 5, 3, words as i32),
+        with_register(Op3::SubCc, 0, 1, 5),
+        Insn::Branch {
+            annul: false,
+            cond: 13,
+            disp: 3,
+        },
+        NOP,
+        Insn::Trap { number: 8 },
+    ]
+}
+
+// A block with these words of its map and its body's number, at the heap's top, and pended.
+fn put_made(
+    code: &mut Vec<Insn>,
+    locals: u32,
+    k: u32,
+    map: u32,
+    body: u32,
+) -> Result<(), OutOfMemory>
+    requires { locals + k ≤ 512 }
+    ensures { OnOk result (code.new.items ≡ code.old.items ++ made_code locals k map body) }
+{
+    put(code, &word_into(1, map))?;
+    put(code, &[store(1, 6, 0)])?;
+    put(code, &word_into(1, body))?;
+    put(code, &[store(1, 6, 4), store(17, 6, 8), store(24, 6, 12)])?;
+    put(
+        code,
+        &[
+            refer(1),
+            pend(1, locals, k),
+            plus(6, 16),
+            plus(3, 4),
+            count(),
+        ],
+    )
+}
+
+fn put_block(
+    code: &mut Vec<Insn>,
+    locals: u32,
+    k: u32,
+    map: u32,
+    body: u32,
+) -> Result<(), OutOfMemory>
+    requires { locals + k ≤ 512 }
+    ensures { OnOk result (code.new.items ≡ code.old.items ++ block_code locals k map body) }
+{
+    put(code, &fits_code(4))?;
+    put_made(code, locals, k, map, body)
+}
+
 // Back over so many words.
 fn put_restart(code: &mut Vec<Insn>, back: u32) -> Result<(), OutOfMemory>
     requires some { 0 < back }
@@ -325,7 +390,13 @@ fn put_bare(
         Node::Return => put_return(code, owns, locals, k.saturating_sub(1)),
         Node::NonLocal => put_non_local(code, locals, k.saturating_sub(1)),
         Node::End => put_return(code, owns, locals, k.saturating_sub(1)),
-        Node::BlockLit(_) => put(code, &[Insn::Trap { number: 8 }]),
+        Node::BlockLit(body) => put_block(
+            code,
+            locals,
+            k,
+            references.block_map(body),
+            numbered(body.0),
+        ),
         Node::Prim {
             name,
             args,

@@ -3,14 +3,16 @@ ghost use Rattle.std.specs.Prelude.{◌≡◌, ◌++◌, ◌+◌, ◌-◌, ◌*�
 ghost use Rattle.self_terms.specs.Depths.{taken, left_by, grown};
 ghost use Rattle.self_terms.specs.declared.bodies.Local.{Local};
 ghost use Rattle.plain_words.specs.declared.references.References.{References};
-ghost use Rattle.plain_words.specs.Code.{poll, frame_code, holder_code, kept_code, argument_stores, initial_stores};
-ghost use Rattle.plain_words.specs.Units.{owns_context, frame_locals, frame_words, deepest, larger, is_block_literal, initial_words, entry_code, unit_code, node_code, datum_word, unit_points, node_points, is_call, times};
+ghost use Rattle.plain_words.specs.Code.{poll, move, plus, count, frame_code, start_code, no_maker, entry_kept, context_head, context_end, argument_stores, initial_stores, cell_offset, cell_arguments, cell_initials};
+ghost use Rattle.plain_words.specs.Units.{owns_context, of_block, numbered, frame_locals, frame_words, deepest, larger, is_block_literal, initial_words, entry_code, entry_size, unit_code, node_code, datum_word, unit_points, node_points, is_call, times};
 ghost use Rattle.plain_words.specs.Putting.{AreInsns};
 ghost use Rattle.plain_words.specs.Translating.{CanTranslate, IsShort, IsSmallDatum};
 
-use crate::instructions::{copy, count, local_offset, plus_one, store, with_number};
+use crate::instructions::{
+    cell_offset, copy, count, load, local_offset, plus, plus_one, refer, store, with_number,
+};
 use crate::nodes::{put, put_node, word_into};
-use crate::references::References;
+use crate::references::{References, numbered};
 use crate::units::{Point, Unit};
 use self_terms::{Body, Local, Node, OutOfMemory};
 use sparc_insn::{Insn, Op3};
@@ -71,6 +73,12 @@ pub fn owns_context(body: &Body) -> bool
     false
 }
 
+fn of_block(body: &Body) -> bool
+    ensures { result ≡ of_block body.now }
+{
+    body.outer.is_some()
+}
+
 /// How many locals the frames of a body keep, its arguments among them.
 pub fn frame_locals_of(body: &Body) -> u32
     requires { CanTranslate body.now }
@@ -116,24 +124,49 @@ pub fn frame_words_of(body: &Body) -> u32
     2 * ((29 + frame_locals_of(body) + deepest(body)) / 2)
 }
 
+// How many words an entry has beside those of arguments and locals.
+fn entry_size(owns: bool) -> u32
+    ensures value { result ≡ entry_size owns }
+    ensures small { result ≤ 17 }
+{
+    if owns { 17 } else { 9 }
+}
+
 /// How many words stand in the unit of a body before its first node.
 pub fn entry_words_of(body: &Body) -> u32
     requires { CanTranslate body.now }
     ensures value { (r : References) → result ≡ length (entry_code r body.now) }
-    ensures small { result ≤ 206 }
+    ensures small { result ≤ 214 }
 {
     let arguments = body.arguments.as_slice();
     let locals = body.locals.as_slice();
-    9 + arguments.len() as u32 + 3 * locals.len() as u32
+    entry_size(owns_context(body)) + arguments.len() as u32 + 3 * locals.len() as u32
 }
 
-// The frame of so many words, and in it the method holder.
+// The frame of so many words.
 fn put_frame(code: &mut Vec<Insn>, words: u32) -> Result<(), OutOfMemory>
     requires some { 0 < words }
     requires few { words ≤ 1024 }
-    ensures { OnOk result (code.new.items ≡ code.old.items ++ (frame_code (4 * words) ++ holder_code)) }
+    ensures { OnOk result (code.new.items ≡ code.old.items ++ frame_code (4 * words)) }
 {
-    let frame = with_number(Op3::Save, 14, 14, -(4 * words as i32));
+    put(code, &[with_number(Op3::Save, 14, 14, -(4 * words as i32))])
+}
+
+// The method holder, and a block's receiver and the context of its maker.
+fn put_start(code: &mut Vec<Insn>, block: bool) -> Result<(), OutOfMemory>
+    ensures { OnOk result (code.new.items ≡ code.old.items ++ start_code block) }
+{
+    if block {
+        return put(
+            code,
+            &[
+                load(16, 24, 7),
+                load(5, 16, 7),
+                load(5, 5, 104),
+                load(24, 24, 11),
+            ],
+        );
+    }
     let branch = Insn::Branch {
         annul: true,
         cond: 1,
@@ -141,8 +174,18 @@ fn put_frame(code: &mut Vec<Insn>, words: u32) -> Result<(), OutOfMemory>
     };
     put(
         code,
-        &[frame, with_number(Op3::OrCc, 0, 5, 0), branch, copy(5, 24)],
+        &[with_number(Op3::OrCc, 0, 5, 0), branch, copy(5, 24)],
     )
+}
+
+// A method has no maker.
+fn put_no_maker(code: &mut Vec<Insn>, block: bool) -> Result<(), OutOfMemory>
+    ensures { OnOk result (code.new.items ≡ code.old.items ++ no_maker block) }
+{
+    if block {
+        return Ok(());
+    }
+    put(code, &[copy(16, 0)])
 }
 
 // So many arguments to their places in the frame.
@@ -195,17 +238,132 @@ fn put_initials(
     Ok(())
 }
 
-// The words before the first node: the frame of so many words, and what is kept in it.
+// What an activation without a context keeps, but for the holder.
+fn put_in_frame(
+    code: &mut Vec<Insn>,
+    references: &References,
+    body: &Body,
+) -> Result<(), OutOfMemory>
+    requires { CanTranslate body.now }
+    ensures { OnOk result (code.new.items ≡ (code.old.items ++ (move 17 0 ∷ argument_stores 25 0 (length body.now.arguments))) ++ (initial_stores (length body.now.arguments) (initial_words references.now body.now) ++ (plus 4 1 ∷ count ∷ []))) }
+{
+    let arguments = body.arguments.as_slice().len();
+    put(code, &[copy(17, 0)])?;
+    put_argument_stores(code, arguments as u8)?;
+    put_initials(code, references, arguments as u32, body.locals.as_slice())?;
+    put(code, &[plus_one(4), count()])
+}
+
+// So many arguments to their places in a context at the heap's top.
+fn put_cell_arguments(code: &mut Vec<Insn>, arguments: u8) -> Result<(), OutOfMemory>
+    requires { arguments ≤ 5 }
+    ensures { OnOk result (code.new.items ≡ code.old.items ++ cell_arguments 25 0 arguments) }
+{
+    for at in 0..arguments {
+        put(code, &[store(25 + at, 6, cell_offset(at as u32))])?;
+    }
+    Ok(())
+}
+
+// One initial content to its place there.
+fn put_cell_initial(code: &mut Vec<Insn>, slot: u32, word: u32) -> Result<(), OutOfMemory>
+    requires { slot ≤ 100 }
+    ensures { OnOk result (code.new.items ≡ code.old.items ++ cell_initials slot (word ∷ [])) }
+{
+    put(code, &word_into(1, word))?;
+    put(code, &[store(1, 6, cell_offset(slot))])
+}
+
+// The initial contents of the locals, the first of which has the number `slot`, to their places there.
+fn put_cell_initials(
+    code: &mut Vec<Insn>,
+    references: &References,
+    slot: u32,
+    locals: &[Local],
+) -> Result<(), OutOfMemory>
+    requires low { slot ≤ 5 }
+    requires few { length locals.now ≤ 64 }
+    requires small { (k : ℕ) (x : Local) → slice_get locals.now k ≡ Some x → IsSmallDatum x.initial }
+    ensures { OnOk result (code.new.items ≡ code.old.items ++ cell_initials slot (map (λ x. datum_word references.now x.initial) locals.now)) }
+{
+    for at in 0..locals.len() {
+        let local = local_at(locals, at);
+        put_cell_initial(code, slot + at as u32, references.datum(local.initial))?;
+    }
+    Ok(())
+}
+
+// The first words of a context, whose map has this word.
+fn put_context_head(code: &mut Vec<Insn>, map: u32) -> Result<(), OutOfMemory>
+    ensures { OnOk result (code.new.items ≡ code.old.items ++ context_head map) }
+{
+    put(code, &word_into(1, map))?;
+    put(
+        code,
+        &[
+            store(1, 6, 0),
+            store(16, 6, 4),
+            store(14, 6, 8),
+            store(24, 6, 12),
+        ],
+    )
+}
+
+// What an activation with a context keeps in it.
+fn put_in_context(
+    code: &mut Vec<Insn>,
+    references: &References,
+    body: &Body,
+) -> Result<(), OutOfMemory>
+    requires { CanTranslate body.now }
+    ensures { OnOk result (code.new.items ≡ (code.old.items ++ (context_head (numbered references.now.contexts) ++ cell_arguments 25 0 (length body.now.arguments))) ++ (cell_initials (length body.now.arguments) (initial_words references.now body.now) ++ context_end (4 + length body.now.arguments + length (initial_words references.now body.now)))) }
+{
+    let arguments = body.arguments.as_slice().len();
+    let locals = body.locals.as_slice();
+    put_context_head(code, numbered(references.contexts))?;
+    put_cell_arguments(code, arguments as u8)?;
+    put_cell_initials(code, references, arguments as u32, locals)?;
+    let words = 4 + arguments as u32 + locals.len() as u32;
+    put(
+        code,
+        &[
+            refer(17),
+            plus(6, 4 * words),
+            plus(3, words),
+            plus_one(4),
+            count(),
+        ],
+    )
+}
+
+// What is kept of an entry.
+fn put_kept(
+    code: &mut Vec<Insn>,
+    references: &References,
+    body: &Body,
+    owns: bool,
+    block: bool,
+) -> Result<(), OutOfMemory>
+    requires { CanTranslate body.now }
+    ensures { OnOk result (code.new.items ≡ code.old.items ++ entry_kept owns block (numbered references.now.contexts) (length body.now.arguments) (initial_words references.now body.now)) }
+{
+    put(code, &[store(5, 14, 104)])?;
+    put_no_maker(code, block)?;
+    if owns {
+        return put_in_context(code, references, body);
+    }
+    put_in_frame(code, references, body)
+}
+
+// The words before the first node: the frame, and what is kept of the entry.
 fn put_entry(code: &mut Vec<Insn>, references: &References, body: &Body) -> Result<(), OutOfMemory>
     requires { CanTranslate body.now }
     ensures { OnOk result (code.new.items ≡ code.old.items ++ entry_code references.now body.now) }
 {
-    let arguments = body.arguments.as_slice().len();
+    let block = of_block(body);
     put_frame(code, frame_words_of(body))?;
-    put(code, &[store(5, 14, 104), copy(16, 0), copy(17, 0)])?;
-    put_argument_stores(code, arguments as u8)?;
-    put_initials(code, references, arguments as u32, body.locals.as_slice())?;
-    put(code, &[plus_one(4), count()])?;
+    put_start(code, block)?;
+    put_kept(code, references, body, owns_context(body), block)?;
     Ok(())
 }
 
