@@ -1,0 +1,9 @@
+pub mod Heaped
+pub mod Around
+pub mod Reading
+pub mod Storing
+pub mod Assigning
+pub mod Returned
+pub mod Answering
+pub mod Ending
+pub mod Making

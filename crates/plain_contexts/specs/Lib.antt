@@ -1,0 +1,3 @@
+-- Activations that have contexts.
+pub mod Contexts
+pub mod Making
