@@ -3,10 +3,10 @@ use Rattle.std.proofs.Common.{◌≡◌, ℕ, zero, suc, ◌+◌, ◌*◌, ◌%�
 use Rattle.std.specs.Prelude.{false, nat_eq, Bool, List, [], ◌∷◌, length, drop, get_or}
 use Rattle.self_terms.specs.declared.nodes.Node.{Node}
 use Rattle.self_terms.specs.Depths.{taken, depth}
-use Rattle.sparc_store.specs.Words.{Words, IsWithin, Stored}
+use Rattle.sparc_store.specs.Words.{Words, Stored}
 use Rattle.sparc_store.specs.Windows.{Frame as Window, frame_before, but_first}
 use Rattle.sparc_store.proofs.Placed.{others_stay, put_stays_within}
-use Rattle.sparc_machine.specs.State.{MachineState, with_reg}
+use Rattle.sparc_machine.specs.State.{with_reg}
 use Rattle.source_model.specs.Messages.{Met}
 use Rattle.source_model.specs.Soundness.{body_in}
 use Rattle.source_model.specs.State.{Activation, State}
@@ -28,7 +28,7 @@ use Rattle.plain_words.specs.Showing.{viewed}
 use Rattle.plain_words.specs.Units.{frame_locals}
 use Rattle.plain_words.proofs.Basics.{other_register}
 use Rattle.plain_words.proofs.Shown.{no_scratch}
-use Rattle.plain_runs.specs.Host.{Host, raw_of, descriptor_at, heap_words}
+use Rattle.plain_runs.specs.Host.{raw_of, descriptor_at, heap_words}
 use Rattle.plain_runs.specs.Services.{cleared, with_left, data_answers, assigns}
 use Rattle.plain_runs.specs.Sound.{callers_of}
 use Rattle.plain_runs.specs.Course.{with_machine}

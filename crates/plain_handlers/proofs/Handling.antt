@@ -7,25 +7,17 @@ use Rattle.self_terms.specs.declared.names.Name.{Name}
 use Rattle.self_terms.specs.declared.nodes.Node.TheVariants as nodes
 use Rattle.self_terms.specs.declared.values.Value.{Value}
 use Rattle.sparc_machine.specs.State.{MachineState, with_reg}
-use Rattle.source_model.specs.Messages.{meets}
 use Rattle.source_model.specs.Names.{text_named}
 use Rattle.source_model.specs.Primitives.{Fails as Failure, row_of, error_string, row_string}
-use Rattle.source_model.specs.Sends.{Message, sends}
-use Rattle.source_model.specs.State.{Activation, State}
-use Rattle.source_model.specs.Step.{done, handler_of, performs, fixed_string, value_at}
-use Rattle.heap_cells.specs.Standing.{IsValue}
+use Rattle.source_model.specs.Sends.{Message}
+use Rattle.source_model.specs.State.{State}
+use Rattle.source_model.specs.Step.{fixed_string, value_at}
 use Rattle.raw_steps.specs.Messages.{RawMessage, asked}
 use Rattle.raw_steps.specs.Sends.{here_of}
-use Rattle.raw_steps.specs.Stands.{Sense}
 use Rattle.plain_words.specs.Moves.{is_scratch, Moved}
 use Rattle.plain_words.proofs.Basics.{other_register}
-use Rattle.plain_runs.specs.Host.{Host}
-use Rattle.plain_runs.specs.Sound.{RunsAt}
-use Rattle.plain_steps.specs.Steps.{StandsFor}
-use Rattle.plain_prims.specs.Asking.{IsHandler, IsPerformed}
-use Rattle.plain_prims.specs.Rows.{effect_of}
 use Rattle.plain_prims.proofs.Performing.{done_by_effect}
-use Rattle.plain_handlers.specs.Handling.{failure_name, hands_over, KnowsStrings, IsHandled, FailuresAreHandled}
+use Rattle.plain_handlers.specs.Handling.{hands_over, FailuresAreHandled}
 
 -- the outs are scratch registers
 outs_apart : (a : Bool) (r out : ℕ) → nat_eq r out ≡ a → is_scratch r ≡ false → is_scratch out ≡ true → nat_eq r out ≡ false
