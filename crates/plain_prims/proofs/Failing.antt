@@ -1,5 +1,5 @@
 -- Primitives that end the current activity.
-use Rattle.std.proofs.Common.{◌≡◌, ℕ, ◌+◌, ◌<◌, ◌∙◌, ap, arith, List}
+use Rattle.std.proofs.Common.{◌≡◌, ℕ, ◌+◌, ◌<◌, ◌∙◌, ap, sym, arith, List}
 use Rattle.std.specs.Prelude.{Bool, false, nat_le, ◌∷◌, length, Option, Ok, Err}
 use Rattle.std.proofs.lemmas.Bool.{cond-false}
 use Rattle.std.proofs.lemmas.Grind.{common_steps}
@@ -8,17 +8,25 @@ use Rattle.self_terms.specs.declared.errors.ErrorName.TheVariants as errors
 use Rattle.self_terms.specs.declared.nodes.Node.TheVariants as nodes
 use Rattle.self_terms.specs.declared.values.Value.{Value}
 use Rattle.self_terms.specs.declared.values.Value.TheVariants as values
+use Rattle.object_maps.specs.declared.layout.Heap.{Heap}
+use Rattle.sparc_store.specs.Words.{Words}
+use Rattle.prim_table.specs.Answers.{IsAnswer}
+use Rattle.prim_table.specs.declared.answers.PrimAnswer.TheVariants as answers
 use Rattle.source_model.specs.Names.{text_named}
-use Rattle.source_model.specs.Primitives.{Makes, Fails as Failure, row_of}
+use Rattle.source_model.specs.Primitives.{Effect, Gives, Makes, Puts, Prints, Fails as Failure, row_of}
 use Rattle.source_model.specs.declared.objects.Thing.{Thing}
 use Rattle.source_model.specs.Sends.{Message, then_do, goes_on, paid}
 use Rattle.source_model.specs.State.{Activation, State}
 use Rattle.source_model.specs.Step.{handler_of, performs, with_thing}
 use Rattle.raw_steps.specs.Messages.{asked}
 use Rattle.raw_steps.specs.Sends.{here_of}
+use Rattle.raw_steps.specs.Stands.{Sense}
+use Rattle.plain_runs.specs.Host.{Host}
+use Rattle.plain_runs.specs.Course.{with_machine}
 use Rattle.plain_answers.proofs.Failing.{errors_fail}
-use Rattle.plain_prims.specs.Failing.{FailuresEnd, FullStoresEnd, UnknownFails}
+use Rattle.plain_prims.specs.Failing.{FailuresEnd, FullStoresEnd, UnknownFails, RefusalsTell}
 use Rattle.plain_prims.specs.Rows.{applied}
+use Rattle.plain_prims.specs.Services.{heap_of}
 use Rattle.plain_prims.proofs.Performing.{done_by_effect}
 use Rattle.plain_prims.proofs.Rows.{effects_tell}
 
@@ -53,3 +61,14 @@ full_stores_end z h s b n name args implied handler r q f can plain words t is m
 
 pub unknown_fails : UnknownFails
 unknown_fails s name args m none = effects_tell s (text_named s.names name.0) args m.receiver m.arguments ∙ ap (λ y. applied s y m.receiver m.arguments) none
+
+-- what failed has the error of its effect
+refused : (z : Sense) (h : Host) (s : State) (old new : Words) (heap after : Heap) (receiver : ℕ) (x : ErrorName) (e : Effect) → IsAnswer h.maps old new heap after z.cells z.places s.things z.made receiver (answers.Fails x) e → (e ≡ Failure x) × (new ≡ old) × (after ≡ heap)
+refused z h s old new heap after receiver x (Failure y) a = (ap Failure (sym a.0), a.1, a.2)
+refused z h s old new heap after receiver x (Gives v) a = absurd a
+refused z h s old new heap after receiver x (Makes words t) a = absurd a
+refused z h s old new heap after receiver x (Puts o t) a = absurd a
+refused z h s old new heap after receiver x (Prints line) a = absurd a
+
+pub refusals_tell : RefusalsTell
+refusals_tell z h s m memory heap x e a = refused z h s m.memory memory (heap_of (with_machine h m)) heap (m.regs 8) x e a.answers

@@ -4,8 +4,12 @@ use Rattle.self_terms.specs.declared.errors.ErrorName.{ErrorName}
 use Rattle.self_terms.specs.declared.errors.ErrorName.TheVariants as errors
 use Rattle.self_terms.specs.declared.names.Name.{Name}
 use Rattle.self_terms.specs.declared.nodes.Node.TheVariants as nodes
+use Rattle.object_maps.specs.declared.layout.Heap.{Heap}
+use Rattle.sparc_store.specs.Words.{Words}
+use Rattle.sparc_machine.specs.State.{MachineState}
+use Rattle.prim_table.specs.declared.answers.PrimAnswer.TheVariants as answers
 use Rattle.source_model.specs.Names.{text_named}
-use Rattle.source_model.specs.Primitives.{Makes, Fails as Failure}
+use Rattle.source_model.specs.Primitives.{Effect, Makes, Fails as Failure}
 use Rattle.source_model.specs.declared.objects.Thing.{Thing}
 use Rattle.source_model.specs.Sends.{Message}
 use Rattle.source_model.specs.State.{State}
@@ -15,11 +19,13 @@ use Rattle.raw_steps.specs.Sends.{here_of}
 use Rattle.raw_steps.specs.Stands.{Sense}
 use Rattle.plain_runs.specs.Host.{Host}
 use Rattle.plain_runs.specs.Sound.{RunsAt}
-use Rattle.plain_runs.specs.Course.{CanGo}
+use Rattle.plain_runs.specs.Course.{with_machine, CanGo}
 use Rattle.plain_steps.specs.Steps.{StandsFor}
 use Rattle.plain_answers.specs.Failing.{PlainUnits, Fails}
 use Rattle.plain_prims.specs.Asking.{IsPerformed}
+use Rattle.plain_prims.specs.Performing.{IsApplied}
 use Rattle.plain_prims.specs.Rows.{primitive_of, effect_of}
+use Rattle.plain_prims.specs.Services.{heap_of}
 
 -- a primitive that fails and has no handler
 abbrev pub FailuresEnd : Type 0
@@ -34,3 +40,7 @@ FullStoresEnd = (z : Sense) (h : Host) (s : State) (b n : ℕ) (name : Name) (ar
 -- A name that has no primitive of so many arguments fails.
 abbrev pub UnknownFails : Type 0
 UnknownFails = (s : State) (name : Name) (args : ℕ) (m : Message) → primitive_of (text_named s.names name.0) args ≡ None → effect_of s name args m ≡ Failure errors.PrimitiveNotDefined
+
+-- A primitive that was applied and has failed left memory and heap, and failed with the error of its effect.
+abbrev pub RefusalsTell : Type 0
+RefusalsTell = (z : Sense) (h : Host) (s : State) (m : MachineState) (memory : Words) (heap : Heap) (x : ErrorName) (e : Effect) → IsApplied z h s m memory heap (answers.Fails x) e → (e ≡ Failure x) × (memory ≡ m.memory) × (heap ≡ heap_of (with_machine h m))

@@ -1,6 +1,6 @@
 // Laws of primitives in plain code.
 ghost use Rattle.plain_prims.specs.Asking.{PrimitivesAsk};
-ghost use Rattle.plain_prims.specs.Failing.{FailuresEnd, FullStoresEnd, UnknownFails};
+ghost use Rattle.plain_prims.specs.Failing.{FailuresEnd, FullStoresEnd, RefusalsTell, UnknownFails};
 ghost use Rattle.plain_prims.specs.Performing.{AnswersPerform, CostsLeaveRoom, GoalIsLeft, OperandsApply, OperandsStand, SilentStep};
 ghost use Rattle.plain_prims.specs.Rows.{EffectsTell, NamesTell};
 
@@ -32,9 +32,10 @@ pub fn answers_do_steps()
 {}
 
 /// A law: a primitive that fails without a handler ends the current activity, and so does one that is to make a thing for which no plain cost is left. A
-/// name that has no primitive of so many arguments fails.
+/// name that has no primitive of so many arguments fails; one that was applied and has failed left everything as it was.
 pub fn failures_end_activities()
     ensures failure { FailuresEnd }
     ensures full { FullStoresEnd }
     ensures unknown { UnknownFails }
+    ensures refusal { RefusalsTell }
 {}

@@ -1,4 +1,4 @@
-use Rattle.plain_prims.proofs.Failing.{failures_end, full_stores_end, unknown_fails}
+use Rattle.plain_prims.proofs.Failing.{failures_end, full_stores_end, unknown_fails, refusals_tell}
 use Rattle.plain_prims.proofs.laws.failures_end_activities.Goals as goal
 
 pub returns-clause-failure : goal.returns-clause-failure
@@ -9,3 +9,6 @@ returns-clause-full c = full_stores_end
 
 pub returns-clause-unknown : goal.returns-clause-unknown
 returns-clause-unknown c = unknown_fails
+
+pub returns-clause-refusal : goal.returns-clause-refusal
+returns-clause-refusal c = refusals_tell
