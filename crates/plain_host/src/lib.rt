@@ -7,8 +7,10 @@
 mod beginning;
 mod hosting;
 mod opening;
+mod performing;
 mod services;
 mod units;
 
 pub use hosting::Hosting;
 pub use opening::open;
+pub use performing::Applied;

@@ -38,7 +38,7 @@ impl Hosting {
     }
 
     // A step is done, and the machine goes on behind the trap.
-    fn pass(&mut self)
+    pub(crate) fn pass(&mut self)
         requires steps { (host self.old).steps < 2 ^ 63 }
         requires on { (host self.old).machine.npc + 4 < 2 ^ 32 }
         ensures { host self.new ≡ passed (host self.old) }

@@ -106,7 +106,7 @@ module _ (z : Sense) (h : Host) (s : State) (f : StandsFor z h s) where
     missing = misses;
   }
 
-  values_told : (v : Value) (w name room : ℕ) → IsValue z.cells z.places v w → length s.things ≤ room
+  pub values_told : (v : Value) (w name room : ℕ) → IsValue z.cells z.places v w → length s.things ≤ room
       → FoundTells z h s h.machine.memory (Some v) w name (found_from h.maps h.machine.memory room w name) (meets s v name)
   values_told v w name room value enough =
       told (Some v) w name (found_from h.maps h.machine.memory room w name) (meets s v name)
@@ -136,7 +136,7 @@ module _ (z : Sense) (h : Host) (s : State) (f : StandsFor z h s) where
       (parents_inside z (all_of h) s all_stands all_core parent n w name room at enough)
       (λ holder c e. inl (parents_find z (all_of h) s all_stands all_core parent n w name room at enough holder c e))
 
-  may : (mem : Words) (v : Value) (w room : ℕ) → mem ≡ h.machine.memory → IsValue z.cells z.places v w → length s.things ≤ room → MayLook h.maps mem room w
+  pub may : (mem : Words) (v : Value) (w room : ℕ) → mem ≡ h.machine.memory → IsValue z.cells z.places v w → length s.things ≤ room → MayLook h.maps mem room w
   may mem v w room same value enough =
       subst (λ (y : Words). MayLook h.maps y room w) (sym same) (record {
         objects = z.places.objects;
@@ -145,7 +145,7 @@ module _ (z : Sense) (h : Host) (s : State) (f : StandsFor z h s) where
         start = (values_sound z h s f v w value).0;
       })
 
-  agree : (mem : Words) (v : Value) (w : ℕ) → mem ≡ h.machine.memory → IsValue z.cells z.places v w → FindSame h.maps mem (heap_words mem) w
+  pub agree : (mem : Words) (v : Value) (w : ℕ) → mem ≡ h.machine.memory → IsValue z.cells z.places v w → FindSame h.maps mem (heap_words mem) w
   agree mem v w same value = subst (λ (y : Words). FindSame h.maps y (heap_words y) w) (sym same) (find_same_at z h s f v w value)
 
 -- the message's receiver is the one whose word this is

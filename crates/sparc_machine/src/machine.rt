@@ -6,7 +6,7 @@ ghost use Rattle.sparc_store.specs.Windows.{CanSave, CanRestore, CanFlush, flush
 ghost use Rattle.sparc_machine.specs.State.{IsWhole, opened, put, in_new_frame, in_older_frame, stack_of, with_stack};
 ghost use Rattle.sparc_machine.specs.Table.{went, transferred, jumped};
 ghost use Rattle.sparc_machine.specs.Held.{state};
-ghost use Rattle.sparc_machine.specs.Frame.{LendsFrame};
+ghost use Rattle.sparc_machine.specs.Frame.{LendsFrame, LendsMemory};
 
 use crate::icc::Icc;
 use sparc_store::{Memory, Windows};
@@ -170,6 +170,14 @@ impl Machine {
             Framed (state self.old).memory (with_frame (state self.old).memory at ws) at ws }
     {
         self.memory.frame_mut(at, words)
+    }
+
+    /// Lends the memory, to be written. Nothing else of the machine changes.
+    pub fn memory_mut(&mut self) -> &mut Memory
+        ensures* writes_back { sem 𝓛 (LendsMemory self.entry result) }
+        ensures value { result.now ≡ (state self.old).memory }
+    {
+        &mut self.memory
     }
 
     /// Whether a SAVE may be done: there is room for a frame, or the oldest that is held begins at a place in a stack.

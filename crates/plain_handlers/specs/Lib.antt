@@ -1,0 +1,3 @@
+-- Handlers of primitives in plain code.
+pub mod Messages
+pub mod Handling

@@ -1,0 +1,26 @@
+// Laws of messages at a trap, and of failures with a handler.
+ghost use Rattle.plain_handlers.specs.Handling.{FailuresAreHandled, HandlersAreFound, HandlersFit};
+ghost use Rattle.plain_handlers.specs.Messages.{AssignmentsAnswerMessages, DataAnswersMessages, MessagesOverflow, MethodsAnswerMessages, MissingMessagesFail, SendsMessage};
+
+/// A law: a primitive that fails and has a handler is a message to that, once its words are in place. What a lookup from the handler finds tells what the
+/// message meets, which takes two arguments in a well-formed state.
+pub fn failures_are_handled()
+    ensures handled { FailuresAreHandled }
+    ensures found { HandlersAreFound }
+    ensures fits { HandlersFit }
+{}
+
+/// A law: a node that sends has a message at its trap; where data, an assignment slot or a method answers it, the words behind the trap, or those of the
+/// method, do the source's step.
+pub fn messages_are_answered()
+    ensures sends { SendsMessage }
+    ensures data { DataAnswersMessages }
+    ensures assignment { AssignmentsAnswerMessages }
+    ensures method { MethodsAnswerMessages }
+{}
+
+/// A law: a message that meets no slot or more than one, or a method where 4096 activations are there, ends the current activity.
+pub fn messages_fail()
+    ensures missing { MissingMessagesFail }
+    ensures overflow { MessagesOverflow }
+{}

@@ -1,0 +1,9 @@
+pub mod Asking
+pub mod Renumbering
+pub mod Serving
+pub mod Rows
+pub mod Heaped
+pub mod Effecting
+pub mod Operands
+pub mod Performing
+pub mod Failing

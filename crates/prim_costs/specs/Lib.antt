@@ -1,0 +1,2 @@
+-- The plain cost of primitives.
+pub mod Taking
