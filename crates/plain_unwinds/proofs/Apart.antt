@@ -1,14 +1,13 @@
 -- What stays of the other activities where the current one's stack, the heap and the control region change.
-use Rattle.std.proofs.Common.{◌≡◌, ◌≢◌, ℕ, zero, suc, ◌+◌, ◌*◌, ◌/◌, ◌<◌, ◌≤◌, ◌==◌, refl, ◌∙◌, ap, sym, subst, arith}
-use Rattle.std.specs.Prelude.{Bool, true, false, if◌then◌else◌, List, [], ◌∷◌, length, All, Some, slice_get, slice_set}
+use Rattle.std.proofs.Common.{◌≡◌, ◌≢◌, ℕ, zero, suc, ◌+◌, ◌/◌, ◌<◌, ◌≤◌, ◌==◌, refl, ◌∙◌, ap, sym, subst, arith}
+use Rattle.std.specs.Prelude.{false, if◌then◌else◌, List, [], ◌∷◌, length, All, Some, slice_get, slice_set}
 use Rattle.std.proofs.lemmas.Grind.{common_steps}
-use Rattle.std.proofs.lemmas.Option.{slice_get_within}
 use Rattle.sparc_insn.specs.declared.insn.Insn.TheVariants.{Trap}
-use Rattle.sparc_store.specs.Words.{Words, word_at, IsWithin}
-use Rattle.sparc_store.specs.Windows.{Frame as Window, saved_at, frame_before, but_first}
+use Rattle.sparc_store.specs.Words.{word_at, IsWithin}
+use Rattle.sparc_store.specs.Windows.{Frame as Window, saved_at}
 use Rattle.sparc_machine.specs.State.{MachineState}
 use Rattle.heap_cells.proofs.Numbered.{got_other}
-use Rattle.frame_walk.specs.Raw.{Thread, Going, Answered as Answer, Failed as Failure}
+use Rattle.frame_walk.specs.Raw.{Thread, Going}
 use Rattle.frame_walk.specs.Walk.{activations, AreLaid, SameBetween}
 use Rattle.frame_walk.proofs.Resting.{rests, laid_as, saved_same, ends_below}
 use Rattle.plain_runs.specs.Host.{Host, seen, waiting, thread_of, threads_from, descriptor_at}

@@ -1,5 +1,5 @@
 -- Memory where the windows were flushed, the marks of some contexts are cleared, and the control region says what is left.
-use Rattle.std.proofs.Common.{◌≡◌, ◌≢◌, ℕ, ◌/◌, ◌<◌, ◌≤◌, refl, ◌∙◌, ap, sym, subst, arith}
+use Rattle.std.proofs.Common.{◌≡◌, ℕ, ◌<◌, ◌≤◌, ◌∙◌, ap, sym, subst, arith}
 use Rattle.std.specs.Prelude.{All, List}
 use Rattle.self_terms.specs.declared.nodes.Node.{Node}
 use Rattle.sparc_store.specs.Words.{Words, word_at, IsWithin}

@@ -1,17 +1,15 @@
 -- Errors end all activations of the current activity.
-use Rattle.std.proofs.Common.{◌≡◌, ℕ, zero, suc, ◌+◌, ◌<◌, ◌≤◌, refl, ◌∙◌, ap, sym, subst, arith}
-use Rattle.std.specs.Prelude.{Bool, List, [], ◌∷◌, length, All, Some, slice_get, slice_set}
-use Rattle.std.proofs.lemmas.List.Elements.{All-nil}
+use Rattle.std.proofs.Common.{◌≡◌, ℕ, zero, suc, ◌+◌, refl, ◌∙◌, ap, sym, arith}
+use Rattle.std.specs.Prelude.{Bool, List, [], ◌∷◌, length, Some, slice_set}
 use Rattle.self_terms.specs.Depths.{depth}
 use Rattle.sparc_store.specs.Words.{Words}
-use Rattle.sparc_store.specs.Windows.{Frame as Window, flushed, frame_before, but_first}
-use Rattle.sparc_machine.specs.State.{MachineState, stack_of}
+use Rattle.sparc_store.specs.Windows.{Frame as Window, frame_before, but_first}
 use Rattle.source_model.specs.Soundness.{body_in}
-use Rattle.source_model.specs.State.{Activation, Running, State}
+use Rattle.source_model.specs.State.{Activation, Running}
 use Rattle.source_model.specs.Step.{node_at, place_of}
 use Rattle.source_model.specs.Messages.{body_of}
 use Rattle.frame_walk.specs.Places.{Descriptor, Frame}
-use Rattle.frame_walk.specs.Raw.{Going, Failed as Failure}
+use Rattle.frame_walk.specs.Raw.{Failed as Failure}
 use Rattle.frame_walk.specs.Walk.{activations}
 use Rattle.raw_steps.specs.Sends.{begins, method_entry, at_node}
 use Rattle.raw_steps.specs.Stands.{Sense, IsAt, AreActivations, makes_blocks}
@@ -19,25 +17,20 @@ use Rattle.raw_steps.proofs.Failing.{fails_follow}
 use Rattle.raw_steps.proofs.Nexts.{current_all}
 use Rattle.raw_steps.proofs.Refusing.{overflows}
 use Rattle.raw_steps.proofs.Sending.{method_enters, missing_is}
-use Rattle.plain_words.specs.Moves.{Moved}
 use Rattle.plain_words.specs.Showing.{viewed}
 use Rattle.plain_words.specs.Units.{frame_locals}
-use Rattle.plain_words.proofs.Shown.{moved_window}
-use Rattle.plain_runs.specs.Host.{Host, threads_from, raw_of, descriptor_at, heap_words}
+use Rattle.plain_runs.specs.Host.{raw_of, descriptor_at, heap_words}
 use Rattle.plain_runs.specs.declared.status.Status.TheVariants.{Waiting, Failed}
-use Rattle.plain_runs.specs.Services.{with_left}
-use Rattle.plain_runs.specs.Sound.{IsWindow, callers_of}
+use Rattle.plain_runs.specs.Sound.{callers_of}
 use Rattle.plain_runs.specs.Course.{with_machine}
 use Rattle.plain_steps.proofs.Here.{at_node_of}
 use Rattle.plain_steps.proofs.Words.{stands_after}
 use Rattle.plain_unwinds.specs.Failing.{ErrorsFail, MissingFails, OverflowFails}
-use Rattle.plain_unwinds.specs.Frames.{contexts_at, with_all_cleared}
 use Rattle.plain_unwinds.specs.Services.{fails_unmarked}
 use Rattle.plain_unwinds.proofs.Apart.{kept_apart, hosted_ended, threads_ended}
 use Rattle.plain_unwinds.proofs.Changed.{last, last_ends, apart_after}
-use Rattle.plain_unwinds.proofs.Marks.{contexts_of, are_marked}
-use Rattle.plain_unwinds.proofs.Walk.{all_contexts_shown}
-use Rattle.plain_unwinds.proofs.Written.{flushed_regs, flushed_same, flushed_held, new, none_held, new_shows}
+use Rattle.plain_unwinds.proofs.Marks.{are_marked}
+use Rattle.plain_unwinds.proofs.Trapped.{reg, windows, zero_is, all_memory_is}
 
 pub errors_fail : ErrorsFail
 errors_fail z h s b n node f r can a older running e err to p mv goal cost few =
@@ -50,39 +43,28 @@ errors_fail z h s b n node f r can a older running e err to p mv goal cost few =
     let at : IsAt (raw_of h) s a older v callers node = record { here = running; there = its.at.there; node_is = ap (λ (y : Activation). node_at (body_of s y.body) y.next) (sym same) ∙ its.at.node_is } in
     let all = current_all (raw_of h) s z f.stands a older v callers node at in
     let marked = are_marked z (raw_of h) s f.stands (makes_blocks s) s.current (a ∷ older) frames all in
-    let written = new h b n node r can.hosted can.runs in
     let lst = last h b n node r can.hosted can.runs frames marked goal cost in
     let place = place_of s a in
     let after = fails_unmarked goal cost e place (with_machine h to) in
     let mF = after.machine in
-    let flat : (flushed (stack_of to)).memory ≡ written = flushed_same (stack_of m) (stack_of to) mv.memory_is mv.older (mv.kept 14 refl) (moved_window m to p (m.regs 2) m.memory mv) in
-    let regs : (flushed (stack_of to)).regs ≡ to.regs = flushed_regs (stack_of to) in
-    let reg : (k : ℕ) → (flushed (stack_of to)).regs k ≡ to.regs k = λ k. ap (λ (q : ℕ → ℕ). q k) regs in
-    let count : to.regs 4 ≡ suc r.view.older = mv.kept 4 refl ∙ r.view.count in
-    let view : (flushed (stack_of to)).regs 14 ≡ m.regs 14 = reg 14 ∙ mv.kept 14 refl in
-    let contexts : contexts_at written (suc r.view.older) (m.regs 14) ≡ contexts_of frames =
-    sym (all_contexts_shown h written (suc r.view.older) (m.regs 14) m.pc) ∙ ap contexts_of (new_shows h b n node r can.hosted can.runs) in
-    let memory_is : mF.memory ≡ lst =
-    (λ i. with_left (with_all_cleared (flat i) (contexts_at (flat i) (count i) (view i))) goal cost)
-    ∙ ap (λ (ws : List ℕ). with_left (with_all_cleared written ws) goal cost) contexts in
-    let none : mF.older ≡ [] = flushed_held (stack_of m) (stack_of to) mv.older (none_held h b n node r can.hosted can.runs) in
-    let windows : All IsWindow mF.older = (let P : List Window → Type 0 = λ y. All IsWindow y in subst P (sym none) (All-nil IsWindow)) in
-    let apart = apart_after h b n node r can.hosted can.runs frames marked goal cost few mF memory_is (reg 0 ∙ mv.kept 0 refl ∙ can.hosted.register_0) windows in
+    let its_reg = reg h b n node r can to p mv in
+    let memory : mF.memory ≡ lst = all_memory_is h b n node r can to p mv goal cost in
+    let apart = apart_after h b n node r can.hosted can.runs frames marked goal cost few mF memory (zero_is h b n node r can to p mv) (windows h b n node r can to p mv) in
     let kept = kept_apart h mF goal can.hosted can.runs apart in
     let raw = fails_follow (raw_of h) s z f.stands a older v callers node at e (heap_words lst) err (last_ends h b n node r can.hosted can.runs frames marked goal cost) in
     let is : raw_of after ≡ record (raw_of h) { mem = heap_words lst; threads = slice_set (raw_of h).threads h.current (Failure e place) } = λ i. record {
       maps = h.maps;
-      mem = ap heap_words memory_is i;
-      heap = record { top = (reg 6 ∙ mv.kept 6 refl) i; next = h.next };
+      mem = ap heap_words memory i;
+      heap = record { top = (its_reg 6 ∙ mv.kept 6 refl) i; next = h.next };
       threads = threads_ended h mF (Failed e place) after.steps after.cost (Failure e place) (λ k. refl) 0 h.current h.statuses (Waiting r.view.sp r.view.pc r.view.known) (omega arith) r.view.running kept.waits i;
       current = h.current;
-      steps = (let q : after.steps + mF.regs 2 ≡ h.steps + m.regs 2 = omega (arith, reg 2, mv.counted) in q) i;
-      cost = (let q : after.cost + mF.regs 3 ≡ h.cost + m.regs 3 = omega (arith, reg 3, mv.kept 3 refl) in q) i;
+      steps = (let q : after.steps + mF.regs 2 ≡ h.steps + m.regs 2 = omega (arith, its_reg 2, mv.counted) in q) i;
+      cost = (let q : after.cost + mF.regs 3 ≡ h.cost + m.regs 3 = omega (arith, its_reg 3, mv.kept 3 refl) in q) i;
     } in
     record {
       hosted = hosted_ended h mF (Failed e place) after.steps after.cost kept.hosted;
       sense = raw.to;
-      stands = stands_after z h after s _ f is refl refl refl raw;
+      stands = stands_after z h after s (record (raw_of h) { mem = heap_words lst; threads = slice_set (raw_of h).threads h.current (Failure e place) }) f is refl refl refl raw;
       uncounted = sym raw.stands.steps ∙ f.stands.steps;
       silent = raw.same;
     }

@@ -1,6 +1,6 @@
 -- A return from a home method ends the activations up to the home's.
-use Rattle.std.proofs.Common.{◌≡◌, ℕ, zero, suc, ◌+◌, ◌-◌, ◌*◌, ◌<◌, ◌≤◌, refl, ◌∙◌, ap, sym, subst, arith}
-use Rattle.std.specs.Prelude.{Bool, true, false, nat_eq, nat_lt, if◌then◌else◌, List, [], ◌∷◌, length, take, drop, All, Some, slice_get, slice_set, get_or}
+use Rattle.std.proofs.Common.{◌≡◌, ℕ, suc, ◌+◌, ◌-◌, ◌<◌, ◌≤◌, refl, ◌∙◌, ap, sym, subst, arith}
+use Rattle.std.specs.Prelude.{Bool, true, false, nat_eq, nat_lt, if◌then◌else◌, List, [], ◌∷◌, take, drop, slice_set, get_or}
 use Rattle.std.proofs.lemmas.List.Elements.{All-nil}
 use Rattle.std.proofs.lemmas.Grind.{common_steps}
 use Rattle.std.proofs.lemmas.Option.{slice_get_within}
@@ -13,8 +13,8 @@ use Rattle.source_model.specs.Soundness.{body_in}
 use Rattle.source_model.specs.State.{State}
 use Rattle.source_model.specs.Step.{step}
 use Rattle.heap_cells.proofs.Numbered.{got_there}
-use Rattle.frame_walk.specs.Places.{Frame, pending_offset}
-use Rattle.frame_walk.specs.Raw.{Thread, Answered as Answer, Raw, becomes, answered_to}
+use Rattle.frame_walk.specs.Places.{Frame}
+use Rattle.frame_walk.specs.Raw.{Answered as Answer, Raw, becomes, answered_to}
 use Rattle.frame_walk.specs.Walk.{activations}
 use Rattle.frame_walk.proofs.Resting.{saved_same}
 use Rattle.frame_moves.proofs.Moving.{taken_window}
@@ -29,24 +29,24 @@ use Rattle.plain_words.specs.Units.{frame_locals, frame_words}
 use Rattle.plain_words.proofs.Basics.{other_register}
 use Rattle.plain_words.proofs.Sending.{non_local_asks}
 use Rattle.plain_words.proofs.Shown.{window_same}
-use Rattle.plain_runs.specs.Host.{Host, threads_from, raw_of, descriptor_at, heap_words}
+use Rattle.plain_runs.specs.Host.{Host, threads_from, raw_of, heap_words}
 use Rattle.plain_runs.specs.declared.status.Status.TheVariants.{Waiting, Answered}
-use Rattle.plain_runs.specs.Services.{settled, with_left, cleared}
+use Rattle.plain_runs.specs.Services.{settled}
 use Rattle.plain_runs.specs.Sound.{IsWindow, RunsAt, callers_of}
 use Rattle.plain_runs.specs.Course.{with_machine, CanGo}
 use Rattle.plain_runs.proofs.Ready.{ready_at}
 use Rattle.plain_sends.proofs.Behind.{depth_is}
-use Rattle.plain_sends.proofs.Resumming.{resummed, runs_as, hosted_as, threads_as}
+use Rattle.plain_sends.proofs.Resumming.{runs_as, hosted_as, threads_as}
 use Rattle.plain_steps.specs.Steps.{StandsFor, DoesStep}
 use Rattle.plain_steps.proofs.Answering.{some_pending, youngest_is}
 use Rattle.plain_steps.proofs.Here.{AtNode, at_node_of}
 use Rattle.plain_steps.proofs.Words.{stands_after}
-use Rattle.plain_unwinds.specs.Frames.{frame_behind, ending_at, with_all_cleared}
+use Rattle.plain_unwinds.specs.Frames.{frame_behind, ending_at}
 use Rattle.plain_unwinds.specs.Returning.{AsksHome, HomeReturnsAsk, HasAnswered, Unwinds, GoesOn, Answers, HomeReturns, GoalsAreLeft}
-use Rattle.plain_unwinds.specs.Services.{written, unmarked, ended_older, home_at, taken_up_with, returns_to, answers_from_home, unwinds}
+use Rattle.plain_unwinds.specs.Services.{unmarked, ended_older, home_at, taken_up_with, returns_to, answers_from_home, unwinds}
 use Rattle.plain_unwinds.proofs.Apart.{IsApart, kept_apart, hosted_ended, threads_ended}
 use Rattle.plain_unwinds.proofs.Changed.{last, last_high, last_ends, last_goal, apart_after}
-use Rattle.plain_unwinds.proofs.Marks.{AreMarked, contexts_of, are_marked, first_marked}
+use Rattle.plain_unwinds.proofs.Marks.{AreMarked, are_marked, first_marked}
 use Rattle.plain_unwinds.proofs.Taken.{Resumes, c, place, back, window, resumes}
 use Rattle.plain_unwinds.proofs.Trapped.{lain, w, flat, reg, windows, count, first, zero_is, frames, memory_is}
 use Rattle.plain_unwinds.proofs.Walk.{saved_frames, ending_shown, behind_shown, ending_most}
@@ -163,7 +163,10 @@ module _ (z : Sense) (h : Host) (s : State) (b n : ℕ) (f : StandsFor z h s) (r
       q.asks.receiver_is ∙ sym (youngest_is m b n (frame_locals x) (depth x.nodes n) (depth_from 0 x.nodes n - 1) (omega (arith, takes, e)))
 
   -- the step, over these words of the heap
-  follows : RawFollows z (record (becomes (raw_of h) (answered_to (drop k (callers_of h older)) value)) { mem = heap_words its_last }) (step s) []
+  abbrev unwound_raw : Raw
+  unwound_raw = record (becomes (raw_of h) (answered_to (drop k (callers_of h older)) value)) { mem = heap_words its_last }
+
+  follows : RawFollows z unwound_raw (step s) []
   follows =
       let x = body_in h.bodies b in
       let takes = (can.runs b).takes n nodes.NonLocal r.node_is in
@@ -251,15 +254,15 @@ module _ (z : Sense) (h : Host) (s : State) (b n : ℕ) (f : StandsFor z h s) (r
     abbrev now : MachineState
     now = its_resumes.to
 
-    raw_now : raw_of (with_machine after now) ≡ record (becomes (raw_of h) (answered_to (drop k (callers_of h older)) value)) { mem = heap_words its_last }
+    raw_now : raw_of (with_machine after now) ≡ unwound_raw
     raw_now = λ i. record {
       maps = h.maps;
       mem = (its_resumes.heap ∙ ap heap_words set_memory) i;
       heap = record { top = (its_resumes.top ∙ top) i; next = h.next };
       threads =
           (threads_as after.steps after.cost (with_machine h now) 0 h.statuses
-              ∙ its_resumes.threads
-              ∙ ap (λ y. slice_set (threads_from h 0 h.statuses) h.current (answered_to (drop k (callers_of h older)) y)) (its_reg 8 ∙ value_is)) i;
+          ∙ its_resumes.threads
+          ∙ ap (λ y. slice_set (threads_from h 0 h.statuses) h.current (answered_to (drop k (callers_of h older)) y)) (its_reg 8 ∙ value_is)) i;
       current = h.current;
       steps = (let e : after.steps + now.regs 2 ≡ h.steps + m.regs 2 + 1 = omega (arith, its_resumes.counted, stepped) in e) i;
       cost = (let e : after.cost + now.regs 3 ≡ h.cost + m.regs 3 = omega (arith, its_resumes.cost, costs) in e) i;
@@ -278,7 +281,7 @@ module _ (z : Sense) (h : Host) (s : State) (b n : ℕ) (f : StandsFor z h s) (r
       next = its_resumes.next;
       runs = runs_as after.steps after.cost (with_machine h now) its_resumes.body its_resumes.number its_resumes.next its_resumes.runs;
       sense = follows.to;
-      stands = stands_after z h (with_machine after now) s _ f raw_now refl refl refl follows;
+      stands = stands_after z h (with_machine after now) s unwound_raw f raw_now refl refl refl follows;
       counted = sym follows.stands.steps ∙ ap (λ y. y + 1) f.stands.steps;
       silent = follows.same;
     }
@@ -300,7 +303,7 @@ module _ (z : Sense) (h : Host) (s : State) (b n : ℕ) (f : StandsFor z h s) (r
         ∙ behind_shown h its_lain k older 0 (m.regs 14) m.pc (omega (arith, least, counted, ended_is, most))
         ∙ no_frames h its_lain (saved_at its_lain (frame_behind its_lain k (m.regs 14)) 14) (saved_at its_lain (frame_behind its_lain k (m.regs 14)) 15 + 8)
 
-    raw_oldest : raw_of oldest ≡ record (becomes (raw_of h) (answered_to (drop k (callers_of h older)) value)) { mem = heap_words its_last }
+    raw_oldest : raw_of oldest ≡ unwound_raw
     raw_oldest =
         let kept = kept_apart h set.machine goal can.hosted can.runs alone in
         let ts = threads_from h 0 h.statuses in
@@ -310,8 +313,8 @@ module _ (z : Sense) (h : Host) (s : State) (b n : ℕ) (f : StandsFor z h s) (r
           heap = record { top = top i; next = h.next };
           threads =
               (threads_ended h set.machine (Answered word) oldest.steps oldest.cost (Answer word) (λ j. refl) 0 h.current h.statuses (Waiting r.view.sp r.view.pc r.view.known) (omega arith) r.view.running kept.waits
-                  ∙ ap (λ y. slice_set ts h.current (Answer y)) (its_reg 8 ∙ value_is)
-                  ∙ ap (λ y. slice_set ts h.current (answered_to y value)) (sym none_left)) i;
+              ∙ ap (λ y. slice_set ts h.current (Answer y)) (its_reg 8 ∙ value_is)
+              ∙ ap (λ y. slice_set ts h.current (answered_to y value)) (sym none_left)) i;
           current = h.current;
           steps = stepped i;
           cost = costs i;
@@ -323,7 +326,7 @@ module _ (z : Sense) (h : Host) (s : State) (b n : ℕ) (f : StandsFor z h s) (r
       answered = got_there h.statuses h.current (Answered word) (slice_get_within h.statuses h.current (Waiting r.view.sp r.view.pc r.view.known) r.view.running);
       hosted = hosted_ended h set.machine (Answered word) oldest.steps oldest.cost (kept_apart h set.machine goal can.hosted can.runs alone).hosted;
       sense = follows.to;
-      stands = stands_after z h oldest s _ f raw_oldest refl refl refl follows;
+      stands = stands_after z h oldest s unwound_raw f raw_oldest refl refl refl follows;
       counted = sym follows.stands.steps ∙ ap (λ y. y + 1) f.stands.steps;
       silent = follows.same;
     }

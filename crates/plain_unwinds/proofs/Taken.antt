@@ -1,8 +1,8 @@
 -- The caller of a home is taken up, and has the answer.
-use Rattle.std.proofs.Common.{◌≡◌, ◌≢◌, ℕ, zero, suc, ◌+◌, ◌-◌, ◌*◌, ◌/◌, ◌<◌, ◌≤◌, refl, ◌∙◌, ap, sym, subst, arith}
-use Rattle.std.specs.Prelude.{List, [], ◌∷◌, length, take, drop, All, Some, slice_get, slice_set}
+use Rattle.std.proofs.Common.{◌≡◌, ℕ, suc, ◌+◌, ◌-◌, ◌*◌, ◌<◌, ◌≤◌, refl, ◌∙◌, ap, sym, subst, arith}
+use Rattle.std.specs.Prelude.{List, [], ◌∷◌, length, drop, slice_set}
 use Rattle.self_terms.specs.declared.nodes.Node.{Node}
-use Rattle.self_terms.specs.Depths.{taken, depth, depth_from}
+use Rattle.self_terms.specs.Depths.{taken, depth_from}
 use Rattle.sparc_store.specs.Words.{Words, word_at, HasFrame}
 use Rattle.sparc_store.specs.Windows.{Frame as Window, kept, saved_at, frame_before, but_first}
 use Rattle.sparc_machine.specs.State.{MachineState}
@@ -25,7 +25,7 @@ use Rattle.plain_sends.proofs.Behind.{pended_behind, depth_is}
 use Rattle.plain_sends.proofs.Serving.{set_set}
 use Rattle.plain_unwinds.specs.Frames.{frame_behind}
 use Rattle.plain_unwinds.proofs.Apart.{IsApart, kept_apart}
-use Rattle.plain_unwinds.proofs.Walk.{saved_frames, behind_shown, behind_laid}
+use Rattle.plain_unwinds.proofs.Walk.{behind_shown, behind_laid}
 use Rattle.plain_unwinds.proofs.Written.{new, window_saved, new_shows, callers_laid}
 
 first_laid : (asked : Asked) (entry end : ℕ) (memory : Words) (n sp : ℕ) (w : Window) (pc : ℕ) (held : List Window) → AreLaid asked entry end memory (suc n) sp w pc held
@@ -173,6 +173,7 @@ module _ (h : Host) (b n : ℕ) (node : Node) (r : RunsAt h b n node) (hosted : 
         ∙ ap (shown lain window place) (sym (told_call h back c.body c.number c.node c.call))
 
     pub resumes : h.current < 4 → Resumes h m k r.view.older
+    unfolding view_now
     resumes low =
         let x = body_in h.bodies c.body in
         let locals = frame_locals x in

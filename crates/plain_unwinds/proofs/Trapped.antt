@@ -1,11 +1,11 @@
 -- Where a node has asked for a service, the windows are flushed and marks of contexts are cleared.
-use Rattle.std.proofs.Common.{◌≡◌, ℕ, suc, ◌+◌, ◌≤◌, refl, ◌∙◌, ap, sym, subst, arith}
+use Rattle.std.proofs.Common.{◌≡◌, ℕ, suc, ◌≤◌, refl, ◌∙◌, ap, sym, subst}
 use Rattle.std.specs.Prelude.{List, [], ◌∷◌, take, All}
 use Rattle.std.proofs.lemmas.List.Elements.{All-nil}
 use Rattle.self_terms.specs.declared.nodes.Node.{Node}
 use Rattle.self_terms.specs.Depths.{depth}
 use Rattle.sparc_store.specs.Words.{Words}
-use Rattle.sparc_store.specs.Windows.{Frame as Window, flushed}
+use Rattle.sparc_store.specs.Windows.{Frame as Window}
 use Rattle.sparc_machine.specs.State.{MachineState, stack_of}
 use Rattle.source_model.specs.Soundness.{body_in}
 use Rattle.frame_walk.specs.Places.{Frame}
@@ -20,7 +20,7 @@ use Rattle.plain_runs.specs.Course.{with_machine, CanGo}
 use Rattle.plain_unwinds.specs.Frames.{contexts_at, with_all_cleared}
 use Rattle.plain_unwinds.specs.Services.{written, unmarked}
 use Rattle.plain_unwinds.proofs.Marks.{contexts_of}
-use Rattle.plain_unwinds.proofs.Walk.{contexts_shown}
+use Rattle.plain_unwinds.proofs.Walk.{contexts_shown, all_contexts_shown}
 use Rattle.plain_unwinds.proofs.Written.{flushed_regs, flushed_same, flushed_held, new, none_held, new_shows}
 
 module _ (h : Host) (b n : ℕ) (node : Node) (r : RunsAt h b n node) (can : CanGo h) (to : MachineState) (p : ℕ) (mv : Moved h.machine to p h.machine.memory (h.machine.regs 2)) where
@@ -55,9 +55,18 @@ module _ (h : Host) (b n : ℕ) (node : Node) (r : RunsAt h b n node) (can : Can
   abbrev pub frames : List Frame
   frames = viewed h.machine b n (frame_locals (body_in h.bodies b)) (depth (body_in h.bodies b).nodes n) ∷ callers_of h r.view.older
 
+  all_contexts : contexts_at lain (suc r.view.older) (h.machine.regs 14) ≡ contexts_of frames
+  all_contexts = sym (all_contexts_shown h lain (suc r.view.older) (h.machine.regs 14) h.machine.pc) ∙ ap contexts_of (new_shows h b n node r can.hosted can.runs)
+
   -- memory where the marks of the youngest of them are cleared
   pub memory_is : (j : ℕ) → j ≤ suc r.view.older → (goal cost : ℕ) → (settled goal cost (unmarked j w)).machine.memory ≡ with_left (with_all_cleared lain (contexts_of (take j frames))) goal cost
   memory_is j le goal cost =
       (λ i. with_left (with_all_cleared (flat i) (contexts_at (flat i) j (first i))) goal cost)
       ∙ ap (λ (ws : List ℕ). with_left (with_all_cleared lain ws) goal cost)
       (sym (contexts_shown h lain j (suc r.view.older) (h.machine.regs 14) h.machine.pc le) ∙ ap (λ (fs : List Frame). contexts_of (take j fs)) (new_shows h b n node r can.hosted can.runs))
+
+  -- and where those of all of them are
+  pub all_memory_is : (goal cost : ℕ) → (settled goal cost (unmarked (to.regs 4) w)).machine.memory ≡ with_left (with_all_cleared lain (contexts_of frames)) goal cost
+  all_memory_is goal cost =
+      (λ i. with_left (with_all_cleared (flat i) (contexts_at (flat i) (count i) (first i))) goal cost)
+      ∙ ap (λ (ws : List ℕ). with_left (with_all_cleared lain ws) goal cost) all_contexts

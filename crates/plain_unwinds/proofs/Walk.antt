@@ -1,10 +1,10 @@
 -- What walking the frames of a stack in memory finds is what they show.
-use Rattle.std.proofs.Common.{◌≡◌, ℕ, zero, suc, ◌+◌, ◌-◌, ◌<◌, ◌≤◌, refl, ◌∙◌, ap, sym, subst, arith}
+use Rattle.std.proofs.Common.{◌≡◌, ℕ, zero, suc, ◌+◌, ◌≤◌, refl, ap, subst, arith}
 use Rattle.std.specs.Prelude.{Bool, true, false, nat_eq, if◌then◌else◌, List, [], ◌∷◌, take, drop}
-use Rattle.sparc_store.specs.Words.{Words, word_at}
+use Rattle.sparc_store.specs.Words.{Words}
 use Rattle.sparc_store.specs.Windows.{saved_at}
 use Rattle.frame_walk.specs.Places.{Frame}
-use Rattle.frame_walk.specs.Walk.{activations, Asked, AreLaid, SameBetween}
+use Rattle.frame_walk.specs.Walk.{activations, Asked, AreLaid}
 use Rattle.raw_steps.specs.Ends.{ending}
 use Rattle.plain_runs.specs.Host.{Host, descriptor_at}
 use Rattle.plain_unwinds.specs.Frames.{frame_behind, contexts_at, ending_at}

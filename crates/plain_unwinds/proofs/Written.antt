@@ -1,6 +1,6 @@
 -- Where the windows of the current activity are flushed, its frames stand in memory.
-use Rattle.std.proofs.Common.{◌≡◌, ◌≢◌, ℕ, zero, suc, ◌+◌, ◌*◌, ◌/◌, ◌<◌, ◌≤◌, refl, ◌∙◌, ap, sym, subst, arith}
-use Rattle.std.specs.Prelude.{List, [], ◌∷◌, length, All, Some}
+use Rattle.std.proofs.Common.{◌≡◌, ℕ, zero, suc, ◌+◌, ◌<◌, refl, ◌∙◌, ap, sym, subst, arith}
+use Rattle.std.specs.Prelude.{List, [], ◌∷◌, length}
 use Rattle.std.proofs.lemmas.Option.{slice_get_within}
 use Rattle.self_terms.specs.declared.nodes.Node.{Node}
 use Rattle.self_terms.specs.Depths.{depth}
@@ -8,9 +8,8 @@ use Rattle.sparc_store.specs.Words.{Words, word_at, IsWithin}
 use Rattle.sparc_store.specs.Windows.{Frame as Window, Stack, IsPlace, kept, saved_at, frame_before, but_first, flushed, spilled, all_spilled, with_spilled, with_saved, but_oldest}
 use Rattle.sparc_store.specs.Chain.{frames_from, IsSound, IsStack}
 use Rattle.sparc_store.proofs.SoundStacks.{flush_frames, flush_held}
-use Rattle.sparc_machine.specs.State.{MachineState, stack_of}
+use Rattle.sparc_machine.specs.State.{stack_of}
 use Rattle.source_model.specs.Soundness.{body_in}
-use Rattle.frame_walk.specs.Places.{Frame}
 use Rattle.frame_walk.specs.Walk.{activations, Asked, AreLaid}
 use Rattle.frame_walk.proofs.Resting.{laid_as}
 use Rattle.frame_moves.specs.Moves.{OnlyStackOf}
@@ -19,7 +18,7 @@ use Rattle.frame_moves.proofs.Spared.{flush_only, low_same}
 use Rattle.frame_moves.proofs.Moving.{flush_stays, flush_sound, flush_own, flushed_window}
 use Rattle.plain_words.specs.Showing.{viewed}
 use Rattle.plain_words.specs.Units.{frame_locals}
-use Rattle.plain_runs.specs.Host.{Host, seen, descriptor_at, heap_words}
+use Rattle.plain_runs.specs.Host.{Host, descriptor_at, heap_words}
 use Rattle.plain_runs.specs.declared.status.Status.TheVariants.{Waiting}
 use Rattle.plain_runs.specs.Sound.{IsCaller, IsHeld, Calls, Polls, RunsAt, IsHosted, callers_of, entry_frame, ending_stub}
 use Rattle.plain_runs.specs.Course.{AllRun}
