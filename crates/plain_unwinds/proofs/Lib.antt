@@ -7,3 +7,4 @@ pub mod Failing
 pub mod Taken
 pub mod Trapped
 pub mod Returning
+pub mod Walkable

@@ -48,7 +48,7 @@ use Rattle.plain_unwinds.proofs.Apart.{IsApart, kept_apart, hosted_ended, thread
 use Rattle.plain_unwinds.proofs.Changed.{last, last_high, last_ends, last_goal, apart_after}
 use Rattle.plain_unwinds.proofs.Marks.{AreMarked, are_marked, first_marked}
 use Rattle.plain_unwinds.proofs.Taken.{Resumes, c, place, back, window, resumes}
-use Rattle.plain_unwinds.proofs.Trapped.{lain, w, flat, reg, windows, count, first, zero_is, frames, memory_is}
+use Rattle.plain_unwinds.proofs.Trapped.{lain, w, flat, reg, windows, counted as all_counted, first, zero_is, frames, memory_is}
 use Rattle.plain_unwinds.proofs.Walk.{saved_frames, ending_shown, behind_shown, ending_most}
 use Rattle.plain_unwinds.proofs.Written.{window_saved, new_shows}
 
@@ -109,10 +109,10 @@ module _ (z : Sense) (h : Host) (s : State) (b n : ℕ) (f : StandsFor z h s) (r
 
   -- how many frames end beside the youngest
   abbrev k : ℕ
-  k = ending_at its_lain older (m.regs 30) (m.regs 16)
+  k = ending_at its_lain older (saved_at its_lain (m.regs 14) 14) (saved_at its_lain (m.regs 14) 0)
 
   most : k ≤ older
-  most = ending_most its_lain older (m.regs 30) (m.regs 16)
+  most = ending_most its_lain older (saved_at its_lain (m.regs 14) 14) (saved_at its_lain (m.regs 14) 0)
 
   its_reg : (j : ℕ) → its_w.machine.regs j ≡ to.regs j
   its_reg = reg h b n nodes.NonLocal r can to q.at mv
@@ -120,14 +120,17 @@ module _ (z : Sense) (h : Host) (s : State) (b n : ℕ) (f : StandsFor z h s) (r
   its_flat : its_w.machine.memory ≡ its_lain
   its_flat = flat h b n nodes.NonLocal r can to q.at mv
 
-  counted : to.regs 4 ≡ suc older
-  counted = count h b n nodes.NonLocal r can to q.at mv
+  counted : its_w.machine.regs 4 ≡ suc older
+  counted = all_counted h b n nodes.NonLocal r can to q.at mv
+
+  sp_is : its_w.machine.regs 14 ≡ m.regs 14
+  sp_is = first h b n nodes.NonLocal r can to q.at mv
 
   fewer : its_w.machine.regs 4 - 1 ≡ older
-  fewer = omega (arith, its_reg 4, counted)
+  fewer = omega (arith, counted)
 
   ended_is : ended_older its_w ≡ k
-  ended_is = λ i. ending_at (its_flat i) (fewer i) ((its_reg 30 ∙ mv.kept 30 refl) i) ((its_reg 16 ∙ mv.kept 16 refl) i)
+  ended_is = λ i. ending_at (its_flat i) (fewer i) (saved_at (its_flat i) (sp_is i) 14) (saved_at (its_flat i) (sp_is i) 0)
 
   -- as many as raw_steps has
   callers_are : callers_of h older ≡ saved_frames h its_lain older (saved_at its_lain (m.regs 14) 14) (saved_at its_lain (m.regs 14) 15 + 8)
@@ -136,7 +139,7 @@ module _ (z : Sense) (h : Host) (s : State) (b n : ℕ) (f : StandsFor z h s) (r
   as_raw : k ≡ ending v.outer (callers_of h older)
   as_raw =
       let saved = window_saved h b n nodes.NonLocal r can.hosted can.runs in
-      ap (λ (y : Window). ending_at its_lain older (y 14) (m.regs 16)) (sym saved)
+      ap (λ (y : Window). ending_at its_lain older (saved_at its_lain (m.regs 14) 14) (y 0)) saved
       ∙ ending_shown h its_lain older (saved_at its_lain (m.regs 14) 14) (saved_at its_lain (m.regs 14) 15 + 8) (m.regs 16)
       ∙ ap (ending (m.regs 16)) (sym callers_are)
 
@@ -201,7 +204,7 @@ module _ (z : Sense) (h : Host) (s : State) (b n : ℕ) (f : StandsFor z h s) (r
   top = its_reg 6 ∙ mv.kept 6 refl
 
   -- Where the home isn't the oldest activation.
-  module _ (less : ended < to.regs 4) where
+  module _ (less : ended < its_w.machine.regs 4) where
     abbrev o : ℕ
     o = older - suc k
 
@@ -212,10 +215,10 @@ module _ (z : Sense) (h : Host) (s : State) (b n : ℕ) (f : StandsFor z h s) (r
     home = saved_at its_w.machine.memory (home_at its_w)
 
     home_is : home ≡ saved_at its_lain (frame_behind its_lain k (m.regs 14))
-    home_is = λ i. saved_at (its_flat i) (frame_behind (its_flat i) (ended_is i) (first h b n nodes.NonLocal r can to q.at mv i))
+    home_is = λ i. saved_at (its_flat i) (frame_behind (its_flat i) (ended_is i) (sp_is i))
 
     abbrev after : Host
-    after = returns_to (home 14) (home 15 + 8) (to.regs 4 - ended) set
+    after = returns_to (home 14) (home 15 + 8) (its_w.machine.regs 4 - ended) set
 
     abbrev last_machine : MachineState
     last_machine = after.machine
@@ -236,11 +239,11 @@ module _ (z : Sense) (h : Host) (s : State) (b n : ℕ) (f : StandsFor z h s) (r
     window_is =
         let caller = c h b n nodes.NonLocal r can.hosted can.runs k o split in
         let at = place h b n nodes.NonLocal r can.hosted can.runs k o split in
-        taken_with set.machine (home 14) (home 15 + 8) (to.regs 4 - ended)
+        taken_with set.machine (home 14) (home 15 + 8) (its_w.machine.regs 4 - ended)
         ∙ (λ i. saved_at (set_memory i) (here i))
         ∙ saved_same its_lain its_last at (λ a from end. high_last a (omega (arith, from, caller.room.place.1)))
 
-    count_is : to.regs 4 - ended ≡ suc o
+    count_is : its_w.machine.regs 4 - ended ≡ suc o
     count_is = omega (arith, less, counted, ended_is)
 
     stands_there : StandsAt last_machine (back h b n nodes.NonLocal r can.hosted can.runs k o split)
@@ -287,7 +290,7 @@ module _ (z : Sense) (h : Host) (s : State) (b n : ℕ) (f : StandsFor z h s) (r
     }
 
   -- Where it is.
-  module _ (least : to.regs 4 ≤ ended) where
+  module _ (least : its_w.machine.regs 4 ≤ ended) where
     abbrev oldest : Host
     oldest = answers_from_home set
 
@@ -331,22 +334,22 @@ module _ (z : Sense) (h : Host) (s : State) (b n : ℕ) (f : StandsFor z h s) (r
       silent = follows.same;
     }
 
-  by_home : (c : Bool) → nat_lt ended (to.regs 4) ≡ c → Unwinds z (if c then returns_to (saved_at its_w.machine.memory (home_at its_w) 14) (saved_at its_w.machine.memory (home_at its_w) 15 + 8) (to.regs 4 - ended) set else answers_from_home set) s
-  by_home true e = GoesOn (does (is_less ended (to.regs 4) e))
-  by_home false e = Answers (answers (is_least ended (to.regs 4) e))
+  by_home : (c : Bool) → nat_lt ended (its_w.machine.regs 4) ≡ c → Unwinds z (if c then returns_to (saved_at its_w.machine.memory (home_at its_w) 14) (saved_at its_w.machine.memory (home_at its_w) 15 + 8) (its_w.machine.regs 4 - ended) set else answers_from_home set) s
+  by_home true e = GoesOn (does (is_less ended (its_w.machine.regs 4) e))
+  by_home false e = Answers (answers (is_least ended (its_w.machine.regs 4) e))
 
   pub unwound : Unwinds z (unwinds goal cost (with_machine h to)) s
-  unwound = by_home (nat_lt ended (to.regs 4)) refl
+  unwound = by_home (nat_lt ended (its_w.machine.regs 4)) refl
 
   goal_is : word_at set.machine.memory 0x30000000 ≡ goal
   goal_is = ap (λ (y : Words). word_at y 0x30000000) set_memory ∙ last_goal h b n nodes.NonLocal r can.hosted can.runs (take (suc k) its_frames) marked goal cost
 
-  goal_home : (c : Bool) → word_at (if c then returns_to (saved_at its_w.machine.memory (home_at its_w) 14) (saved_at its_w.machine.memory (home_at its_w) 15 + 8) (to.regs 4 - ended) set else answers_from_home set).machine.memory 0x30000000 ≡ goal
+  goal_home : (c : Bool) → word_at (if c then returns_to (saved_at its_w.machine.memory (home_at its_w) 14) (saved_at its_w.machine.memory (home_at its_w) 15 + 8) (its_w.machine.regs 4 - ended) set else answers_from_home set).machine.memory 0x30000000 ≡ goal
   goal_home true = goal_is
   goal_home false = goal_is
 
   pub goal_stays : word_at (unwinds goal cost (with_machine h to)).machine.memory 0x30000000 ≡ goal
-  goal_stays = goal_home (nat_lt ended (to.regs 4))
+  goal_stays = goal_home (nat_lt ended (its_w.machine.regs 4))
 
 pub home_returns : HomeReturns
 home_returns z h s b n f r can q goal cost few = unwound z h s b n f r can q goal cost few

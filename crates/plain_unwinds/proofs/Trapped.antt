@@ -45,6 +45,9 @@ module _ (h : Host) (b n : ℕ) (node : Node) (r : RunsAt h b n node) (can : Can
   pub count : to.regs 4 ≡ suc r.view.older
   count = mv.kept 4 refl ∙ r.view.count
 
+  pub counted : w.machine.regs 4 ≡ suc r.view.older
+  counted = reg 4 ∙ count
+
   pub first : w.machine.regs 14 ≡ h.machine.regs 14
   first = reg 14 ∙ mv.kept 14 refl
 
@@ -55,7 +58,7 @@ module _ (h : Host) (b n : ℕ) (node : Node) (r : RunsAt h b n node) (can : Can
   abbrev pub frames : List Frame
   frames = viewed h.machine b n (frame_locals (body_in h.bodies b)) (depth (body_in h.bodies b).nodes n) ∷ callers_of h r.view.older
 
-  all_contexts : contexts_at lain (suc r.view.older) (h.machine.regs 14) ≡ contexts_of frames
+  pub all_contexts : contexts_at lain (suc r.view.older) (h.machine.regs 14) ≡ contexts_of frames
   all_contexts = sym (all_contexts_shown h lain (suc r.view.older) (h.machine.regs 14) h.machine.pc) ∙ ap contexts_of (new_shows h b n node r can.hosted can.runs)
 
   -- memory where the marks of the youngest of them are cleared
@@ -66,7 +69,7 @@ module _ (h : Host) (b n : ℕ) (node : Node) (r : RunsAt h b n node) (can : Can
       (sym (contexts_shown h lain j (suc r.view.older) (h.machine.regs 14) h.machine.pc le) ∙ ap (λ (fs : List Frame). contexts_of (take j fs)) (new_shows h b n node r can.hosted can.runs))
 
   -- and where those of all of them are
-  pub all_memory_is : (goal cost : ℕ) → (settled goal cost (unmarked (to.regs 4) w)).machine.memory ≡ with_left (with_all_cleared lain (contexts_of frames)) goal cost
+  pub all_memory_is : (goal cost : ℕ) → (settled goal cost (unmarked (w.machine.regs 4) w)).machine.memory ≡ with_left (with_all_cleared lain (contexts_of frames)) goal cost
   all_memory_is goal cost =
-      (λ i. with_left (with_all_cleared (flat i) (contexts_at (flat i) (count i) (first i))) goal cost)
+      (λ i. with_left (with_all_cleared (flat i) (contexts_at (flat i) (counted i) (first i))) goal cost)
       ∙ ap (λ (ws : List ℕ). with_left (with_all_cleared lain ws) goal cost) all_contexts

@@ -5,7 +5,7 @@ use Rattle.std.proofs.lemmas.Option.{slice_get_within}
 use Rattle.self_terms.specs.declared.nodes.Node.{Node}
 use Rattle.self_terms.specs.Depths.{depth}
 use Rattle.sparc_store.specs.Words.{Words, word_at, IsWithin}
-use Rattle.sparc_store.specs.Windows.{Frame as Window, Stack, IsPlace, kept, saved_at, frame_before, but_first, flushed, spilled, all_spilled, with_spilled, with_saved, but_oldest}
+use Rattle.sparc_store.specs.Windows.{Frame as Window, Stack, IsPlace, CanFlush, kept, saved_at, frame_before, but_first, flushed, spilled, all_spilled, with_spilled, with_saved, but_oldest}
 use Rattle.sparc_store.specs.Chain.{frames_from, IsSound, IsStack}
 use Rattle.sparc_store.proofs.SoundStacks.{flush_frames, flush_held}
 use Rattle.sparc_machine.specs.State.{stack_of}
@@ -14,7 +14,7 @@ use Rattle.frame_walk.specs.Walk.{activations, Asked, AreLaid}
 use Rattle.frame_walk.proofs.Resting.{laid_as}
 use Rattle.frame_moves.specs.Moves.{OnlyStackOf}
 use Rattle.frame_moves.proofs.Listed.{stack_of as laid_stack, windows_of, windows_same, LaidBy, laid_listed, listed_laid}
-use Rattle.frame_moves.proofs.Spared.{flush_only, low_same}
+use Rattle.frame_moves.proofs.Spared.{flush_only, low_same, can_flush}
 use Rattle.frame_moves.proofs.Moving.{flush_stays, flush_sound, flush_own, flushed_window}
 use Rattle.plain_words.specs.Showing.{viewed}
 use Rattle.plain_words.specs.Units.{frame_locals}
@@ -121,6 +121,12 @@ module _ (h : Host) (b n : ℕ) (node : Node) (r : RunsAt h b n node) (hosted : 
 
   pub window_saved : saved_at new (h.machine.regs 14) ≡ kept h.machine.regs
   window_saved = flushed_window (entry_frame h.current) (suc r.view.older) (stack_of h.machine) sound stack
+
+  pub may_be_flushed : CanFlush (stack_of h.machine)
+  may_be_flushed = can_flush (entry_frame h.current) (suc r.view.older) (stack_of h.machine) sound stack
+
+  pub new_laid : AreLaid (IsHeld h) (entry_frame h.current) ending_stub new (suc r.view.older) (h.machine.regs 14) (saved_at new (h.machine.regs 14)) h.machine.pc []
+  new_laid = (flush_stays (descriptor_at h) (IsHeld h) (entry_frame h.current) ending_stub (suc r.view.older) h.machine.pc (stack_of h.machine) (held_have_room h run) (entry_place h.current few) sound laid_now).1
 
   -- what they show
   pub new_shows : saved_frames h new (suc r.view.older) (h.machine.regs 14) h.machine.pc ≡ viewed h.machine b n (frame_locals (body_in h.bodies b)) (depth (body_in h.bodies b).nodes n) ∷ callers_of h r.view.older

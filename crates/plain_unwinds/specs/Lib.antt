@@ -3,3 +3,4 @@ pub mod Frames
 pub mod Services
 pub mod Failing
 pub mod Returning
+pub mod Walking

@@ -1,13 +1,12 @@
 -- Services 4 and 8 where activations have contexts.
-use Rattle.std.specs.Prelude.{◌≡◌, ◌≢◌, ℕ, ◌+◌, ◌-◌, ◌<◌, nat_lt, if◌then◌else◌, Some, slice_get}
+use Rattle.std.specs.Prelude.{ℕ, ◌+◌, ◌-◌, ◌<◌, nat_lt, if◌then◌else◌}
 use Rattle.self_terms.specs.declared.nodes.Place.{Place}
 use Rattle.self_terms.specs.declared.errors.ErrorName.{ErrorName}
-use Rattle.sparc_store.specs.Words.{HasWord}
-use Rattle.sparc_store.specs.Windows.{CanFlush, IsPlace, flushed, resumed, saved_at}
+use Rattle.sparc_store.specs.Windows.{CanFlush, flushed, resumed, saved_at}
 use Rattle.sparc_machine.specs.State.{MachineState, put, stack_of, with_stack}
 use Rattle.plain_runs.specs.Host.{Host}
 use Rattle.plain_runs.specs.Services.{settled, answered, fails}
-use Rattle.plain_unwinds.specs.Frames.{frame_behind, contexts_at, ending_at, with_all_cleared}
+use Rattle.plain_unwinds.specs.Frames.{frame_behind, contexts_at, ending_at, with_all_cleared, AreWalked}
 
 -- the windows of the current activity are flushed
 abbrev pub written : Host → Host
@@ -17,21 +16,25 @@ written h = record h { machine = with_stack h.machine (flushed (stack_of h.machi
 abbrev pub unmarked : ℕ → Host → Host
 unmarked n h = record h { machine = record h.machine { memory = with_all_cleared h.machine.memory (contexts_at h.machine.memory n (h.machine.regs 14)) } }
 
--- So a host may do: its windows may be flushed, each frame of the current activity is then in a stack, and each context that is there has its mark.
+-- So it may be done: the windows may be flushed, and the frames of the current activity, of which there is one at least, may then be walked.
 pub record CanUnwind (h : Host) : Type 0 where
   pub flushes : CanFlush (stack_of h.machine)
-  pub frames : (k : ℕ) → k < h.machine.regs 4 → IsPlace (frame_behind (written h).machine.memory k (h.machine.regs 14))
-  pub marks : (k context : ℕ) → slice_get (contexts_at (written h).machine.memory (h.machine.regs 4) (h.machine.regs 14)) k ≡ Some context → context ≢ 0 → HasWord (context + 7)
+  pub some : 0 < (written h).machine.regs 4
+  pub walked : AreWalked (written h).machine.memory ((written h).machine.regs 4) ((written h).machine.regs 14)
 
 -- Service 8, an error: all activations of the current activity end, and it has failed.
 abbrev pub fails_unmarked : ℕ → ℕ → ErrorName → Place → Host → Host
-fails_unmarked goal cost e p h = fails goal cost e p (unmarked (h.machine.regs 4) (written h))
+fails_unmarked goal cost e p h =
+    let w = written h in
+    fails goal cost e p (unmarked (w.machine.regs 4) w)
 
 -- Service 4, a return from a home method, with the answer in %o0.
 
 -- how many activations that are older than the youngest end with the home's; and where the home's frame begins
 abbrev pub ended_older : Host → ℕ
-ended_older h = ending_at h.machine.memory (h.machine.regs 4 - 1) (h.machine.regs 30) (h.machine.regs 16)
+ended_older h =
+    let first = saved_at h.machine.memory (h.machine.regs 14) in
+    ending_at h.machine.memory (h.machine.regs 4 - 1) (first 14) (first 0)
 
 abbrev pub home_at : Host → ℕ
 home_at h = frame_behind h.machine.memory (ended_older h) (h.machine.regs 14)
@@ -54,4 +57,4 @@ unwinds goal cost h =
     let ended = ended_older w + 1 in
     let home = saved_at w.machine.memory (home_at w) in
     let s = settled goal cost (unmarked ended w) in
-    if nat_lt ended (h.machine.regs 4) then returns_to (home 14) (home 15 + 8) (h.machine.regs 4 - ended) s else answers_from_home s
+    if nat_lt ended (w.machine.regs 4) then returns_to (home 14) (home 15 + 8) (w.machine.regs 4 - ended) s else answers_from_home s

@@ -1,6 +1,7 @@
 // Laws of services that end activations.
 ghost use Rattle.plain_unwinds.specs.Failing.{ErrorsFail, MissingFails, OverflowFails};
 ghost use Rattle.plain_unwinds.specs.Returning.{GoalsAreLeft, HomeReturns, HomeReturnsAsk};
+ghost use Rattle.plain_unwinds.specs.Walking.{ActivitiesMayEnd};
 
 /// A law: where the step of a node is an error, machine and host stand for the state after it once service 8 has ended the current activity,
 /// whose activations may have contexts; so where its message meets no slot or two, and where too many activations would be there.
@@ -16,4 +17,9 @@ pub fn home_returns_unwind()
     ensures asks { HomeReturnsAsk }
     ensures step { HomeReturns }
     ensures goal { GoalsAreLeft }
+{}
+
+/// A law: wherever a node has asked for a service, these services may be done.
+pub fn activities_may_end()
+    ensures { ActivitiesMayEnd }
 {}

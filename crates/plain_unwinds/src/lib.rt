@@ -8,4 +8,4 @@
 
 mod laws;
 
-pub use laws::{errors_end_activities, home_returns_unwind};
+pub use laws::{activities_may_end, errors_end_activities, home_returns_unwind};
