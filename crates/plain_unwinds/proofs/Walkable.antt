@@ -1,10 +1,10 @@
 -- At a service the frames of the current activity may be walked.
-use Rattle.std.proofs.Common.{◌≡◌, ◌≢◌, ℕ, zero, suc, ◌+◌, ◌-◌, ◌*◌, ◌^◌, ◌<◌, ◌≤◌, refl, ◌∙◌, ap, sym, subst, arith, inl, inr}
+use Rattle.std.proofs.Common.{◌≡◌, ◌≢◌, ℕ, zero, suc, ◌+◌, ◌-◌, ◌^◌, ◌<◌, refl, ◌∙◌, ap, sym, subst, arith, inl, inr}
 use Rattle.std.specs.Prelude.{List, [], ◌∷◌, All, Some, slice_get}
 use Rattle.std.proofs.lemmas.Option.{none-some, same_Some}
 use Rattle.self_terms.specs.declared.nodes.Node.{Node}
 use Rattle.sparc_store.specs.Words.{Words, HasWord}
-use Rattle.sparc_store.specs.Windows.{Frame as Window, IsPlace, CanFlush, kept, saved_at, held_places}
+use Rattle.sparc_store.specs.Windows.{Frame as Window, IsPlace, CanFlush, saved_at, held_places}
 use Rattle.sparc_machine.specs.State.{MachineState, stack_of}
 use Rattle.source_model.specs.Soundness.{body_in}
 use Rattle.source_model.specs.State.{State}
@@ -23,7 +23,7 @@ use Rattle.plain_runs.proofs.Working.{held_have_room}
 use Rattle.plain_steps.specs.Steps.{StandsFor}
 use Rattle.plain_steps.proofs.Here.{at_node_of}
 use Rattle.plain_answers.proofs.Storing.{InHeap}
-use Rattle.plain_unwinds.specs.Frames.{frame_behind, contexts_at, AreWalked}
+use Rattle.plain_unwinds.specs.Frames.{frame_behind, AreWalked}
 use Rattle.plain_unwinds.specs.Services.{CanUnwind}
 use Rattle.plain_unwinds.specs.Walking.{ActivitiesMayEnd}
 use Rattle.plain_unwinds.proofs.Marks.{AreMarked, contexts_of, are_marked}
