@@ -42,7 +42,7 @@ use Rattle.plain_steps.proofs.Answering.{some_pending, youngest_is}
 use Rattle.plain_steps.proofs.Here.{AtNode, at_node_of}
 use Rattle.plain_steps.proofs.Words.{stands_after}
 use Rattle.plain_unwinds.specs.Frames.{frame_behind, ending_at}
-use Rattle.plain_unwinds.specs.Returning.{AsksHome, HomeReturnsAsk, HasAnswered, Unwinds, GoesOn, Answers, HomeReturns, GoalsAreLeft}
+use Rattle.plain_unwinds.specs.Returning.{AsksHome, HomeReturnsAsk, HasAnswered, Unwinds, GoesOn, Answers, HomeReturns, Leaves, HomesLeave}
 use Rattle.plain_unwinds.specs.Services.{unmarked, ended_older, home_at, taken_up_with, returns_to, answers_from_home, unwinds}
 use Rattle.plain_unwinds.proofs.Apart.{IsApart, kept_apart, hosted_ended, threads_ended}
 use Rattle.plain_unwinds.proofs.Changed.{last, last_high, last_ends, last_goal, apart_after}
@@ -344,15 +344,18 @@ module _ (z : Sense) (h : Host) (s : State) (b n : ℕ) (f : StandsFor z h s) (r
   goal_is : word_at set.machine.memory 0x30000000 ≡ goal
   goal_is = ap (λ (y : Words). word_at y 0x30000000) set_memory ∙ last_goal h b n nodes.NonLocal r can.hosted can.runs (take (suc k) its_frames) marked goal cost
 
-  goal_home : (c : Bool) → word_at (if c then returns_to (saved_at its_w.machine.memory (home_at its_w) 14) (saved_at its_w.machine.memory (home_at its_w) 15 + 8) (its_w.machine.regs 4 - ended) set else answers_from_home set).machine.memory 0x30000000 ≡ goal
-  goal_home true = goal_is
-  goal_home false = goal_is
+  abbrev left_by : Bool → Host
+  left_by c = if c then returns_to (saved_at its_w.machine.memory (home_at its_w) 14) (saved_at its_w.machine.memory (home_at its_w) 15 + 8) (its_w.machine.regs 4 - ended) set else answers_from_home set
 
-  pub goal_stays : word_at (unwinds goal cost (with_machine h to)).machine.memory 0x30000000 ≡ goal
-  goal_stays = goal_home (nat_lt ended (its_w.machine.regs 4))
+  leaves_by : (c : Bool) → Leaves goal h (left_by c) s
+  leaves_by true = record { goal_is = goal_is; steps_are = omega (arith, stepped, f.stands.steps); current = refl; runs = can.runs }
+  leaves_by false = record { goal_is = goal_is; steps_are = omega (arith, stepped, f.stands.steps); current = refl; runs = can.runs }
+
+  pub leaves : Leaves goal h (unwinds goal cost (with_machine h to)) s
+  leaves = leaves_by (nat_lt ended (its_w.machine.regs 4))
 
 pub home_returns : HomeReturns
 home_returns z h s b n f r can q goal cost few = unwound z h s b n f r can q goal cost few
 
-pub goals_are_left : GoalsAreLeft
-goals_are_left z h s b n f r can q goal cost few = goal_stays z h s b n f r can q goal cost few
+pub homes_leave : HomesLeave
+homes_leave z h s b n f r can q goal cost few = leaves z h s b n f r can q goal cost few

@@ -13,7 +13,7 @@ use Rattle.plain_words.specs.Units.{frame_locals}
 use Rattle.plain_runs.specs.Host.{Host}
 use Rattle.plain_runs.specs.declared.status.Status.TheVariants.{Answered}
 use Rattle.plain_runs.specs.Sound.{RunsAt, IsHosted}
-use Rattle.plain_runs.specs.Course.{with_machine, CanGo}
+use Rattle.plain_runs.specs.Course.{with_machine, CanGo, AllRun}
 use Rattle.plain_steps.specs.Steps.{StandsFor, DoesStep}
 use Rattle.plain_unwinds.specs.Services.{unwinds}
 
@@ -47,7 +47,13 @@ abbrev pub HomeReturns : Type 0
 HomeReturns = (z : Sense) (h : Host) (s : State) (b n : ℕ) → StandsFor z h s → RunsAt h b n nodes.NonLocal → CanGo h → (q : AsksHome h b n)
     → (goal cost : ℕ) → goal ≤ 1000000000 → Unwinds z (unwinds goal cost (with_machine h q.asks.to)) s
 
--- and what it left of the goal is in its place
-abbrev pub GoalsAreLeft : Type 0
-GoalsAreLeft = (z : Sense) (h : Host) (s : State) (b n : ℕ) → StandsFor z h s → RunsAt h b n nodes.NonLocal → CanGo h → (q : AsksHome h b n)
-    → (goal cost : ℕ) → goal ≤ 1000000000 → word_at (unwinds goal cost (with_machine h q.asks.to)).machine.memory 0x30000000 ≡ goal
+-- What the service leaves: what is left of the goal in its place, with the step counted in the host's sum; the current activity and the bodies.
+pub record Leaves (goal : ℕ) (h to : Host) (s : State) : Type 0 where
+  pub goal_is : word_at to.machine.memory 0x30000000 ≡ goal
+  pub steps_are : to.steps ≡ s.steps + 1
+  pub current : to.current ≡ h.current
+  pub runs : AllRun to
+
+abbrev pub HomesLeave : Type 0
+HomesLeave = (z : Sense) (h : Host) (s : State) (b n : ℕ) → StandsFor z h s → RunsAt h b n nodes.NonLocal → CanGo h → (q : AsksHome h b n)
+    → (goal cost : ℕ) → goal ≤ 1000000000 → Leaves goal h (unwinds goal cost (with_machine h q.asks.to)) s

@@ -1,6 +1,6 @@
 // Laws of services that end activations.
 ghost use Rattle.plain_unwinds.specs.Failing.{ErrorsFail, MissingFails, OverflowFails};
-ghost use Rattle.plain_unwinds.specs.Returning.{GoalsAreLeft, HomeReturns, HomeReturnsAsk};
+ghost use Rattle.plain_unwinds.specs.Returning.{HomeReturns, HomeReturnsAsk, HomesLeave};
 ghost use Rattle.plain_unwinds.specs.Walking.{ActivitiesMayEnd};
 
 /// A law: where the step of a node is an error, machine and host stand for the state after it once service 8 has ended the current activity,
@@ -16,7 +16,7 @@ pub fn errors_end_activities()
 pub fn home_returns_unwind()
     ensures asks { HomeReturnsAsk }
     ensures step { HomeReturns }
-    ensures goal { GoalsAreLeft }
+    ensures leaves { HomesLeave }
 {}
 
 /// A law: wherever a node has asked for a service, these services may be done.

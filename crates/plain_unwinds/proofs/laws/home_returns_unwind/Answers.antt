@@ -1,4 +1,4 @@
-use Rattle.plain_unwinds.proofs.Returning.{home_asks, home_returns, goals_are_left}
+use Rattle.plain_unwinds.proofs.Returning.{home_asks, home_returns, homes_leave}
 use Rattle.plain_unwinds.proofs.laws.home_returns_unwind.Goals as goal
 
 pub returns-clause-asks : goal.returns-clause-asks
@@ -7,5 +7,5 @@ returns-clause-asks c = home_asks
 pub returns-clause-step : goal.returns-clause-step
 returns-clause-step c = home_returns
 
-pub returns-clause-goal : goal.returns-clause-goal
-returns-clause-goal c = goals_are_left
+pub returns-clause-leaves : goal.returns-clause-leaves
+returns-clause-leaves c = homes_leave
