@@ -9,6 +9,7 @@ mod hosting;
 mod opening;
 mod services;
 mod units;
+mod unwinding;
 
 pub use hosting::Hosting;
 pub use opening::open;
