@@ -1,12 +1,15 @@
 -- Frames that are walked in memory.
 use Rattle.std.proofs.Common.{◌≡◌, ◌≢◌, ℕ, zero, suc, ◌+◌, ◌-◌, ◌<◌, ◌≤◌, refl, ◌∙◌, ap, sym, subst, arith, nat_eq}
-use Rattle.std.specs.Prelude.{Bool, true, false, if◌then◌else◌, List, [], ◌∷◌, Some, slice_get}
-use Rattle.std.proofs.lemmas.Bool.{eqb-true, eq-eqb, ne_eqb, cond-true, cond-false}
+use Rattle.std.specs.Prelude.{nat_lt, Bool, true, false, if◌then◌else◌, List, [], ◌∷◌, Some, slice_get}
+use Rattle.std.proofs.lemmas.Bool.{eqb-true, eq-eqb, ne_eqb, cond-true, cond-false, lt-ltb, le-ltb}
 use Rattle.std.proofs.lemmas.Option.{none-some}
 use Rattle.sparc_store.specs.Words.{Words, word_at, with_word}
 use Rattle.sparc_store.specs.Windows.{Frame as Window, saved_at}
 use Rattle.sparc_store.proofs.Placed.{others_stay}
 use Rattle.frame_walk.proofs.Resting.{saved_same}
+use Rattle.plain_runs.specs.Host.{Host}
+use Rattle.plain_runs.specs.Services.{settled}
+use Rattle.plain_unwinds.specs.Services.{answers_from_home, ended_older, home_at, returns_to, unmarked, unwound}
 use Rattle.plain_unwinds.specs.Frames.{AreWalked, contexts_at, ending_at, frame_behind, with_all_cleared, with_cleared}
 
 -- Fewer frames, and those behind the first, may be walked too.
@@ -106,3 +109,24 @@ ends_home memory (suc n) at context none =
 
 pub ends_last : (memory : Words) (left at context : ℕ) → left ≡ 0 → ending_at memory left at context ≡ 0
 ends_last memory left at context none = ap (λ q. ending_at memory q at context) none
+
+-- What comes of a return from a home method: the home's caller goes on, or none is left.
+
+pub returned : (goal cost : ℕ) (w : Host) (ended at next back count : ℕ) → ended ≡ ended_older w → at ≡ home_at w → next ≡ saved_at w.machine.memory at 14 → back ≡ saved_at w.machine.memory at 15 → count ≡ w.machine.regs 4 → ended + 1 < count
+    → returns_to next (back + 8) (count - (ended + 1)) (settled goal cost (unmarked (ended + 1) w)) ≡ unwound goal cost w
+returned goal cost w ended at next back count ended_is at_is next_is back_is count_is less =
+    let n = ended_older w + 1 in
+    let home = saved_at w.machine.memory (home_at w) in
+    let there : next ≡ home 14 = next_is ∙ ap (λ q. saved_at w.machine.memory q 14) at_is in
+    let goes : back ≡ home 15 = back_is ∙ ap (λ q. saved_at w.machine.memory q 15) at_is in
+    let s = settled goal cost (unmarked n w) in
+    (λ i. returns_to (there i) (goes i + 8) (count_is i - (ended_is i + 1)) (settled goal cost (unmarked (ended_is i + 1) w)))
+    ∙ sym (cond-true (nat_lt n (w.machine.regs 4)) (returns_to (home 14) (home 15 + 8) (w.machine.regs 4 - n) s) (answers_from_home s) (lt-ltb n (w.machine.regs 4) (omega (arith, less, ended_is, count_is))))
+
+pub answered_last : (goal cost : ℕ) (w : Host) (ended count : ℕ) → ended ≡ ended_older w → count ≡ w.machine.regs 4 → count ≤ ended + 1 → answers_from_home (settled goal cost (unmarked (ended + 1) w)) ≡ unwound goal cost w
+answered_last goal cost w ended count ended_is count_is most =
+    let n = ended_older w + 1 in
+    let home = saved_at w.machine.memory (home_at w) in
+    let s = settled goal cost (unmarked n w) in
+    (λ i. answers_from_home (settled goal cost (unmarked (ended_is i + 1) w)))
+    ∙ sym (cond-false (nat_lt n (w.machine.regs 4)) (returns_to (home 14) (home 15 + 8) (w.machine.regs 4 - n) s) (answers_from_home s) (le-ltb n (w.machine.regs 4) (omega (arith, most, ended_is, count_is))))

@@ -6,7 +6,7 @@ ghost use Rattle.sparc_store.specs.Windows.{CanFlush, IsPlace, saved_at};
 ghost use Rattle.sparc_machine.specs.State.{stack_of};
 ghost use Rattle.sparc_machine.specs.Held.{state};
 ghost use Rattle.plain_unwinds.specs.Frames.{AreWalked, contexts_at, ending_at, frame_behind, with_all_cleared, with_cleared};
-ghost use Rattle.plain_unwinds.specs.Services.{CanUnwind, answers_from_home, fails_unmarked, returns_to, unmarked, unwinds, written};
+ghost use Rattle.plain_unwinds.specs.Services.{CanUnwind, answers_from_home, ended_older, fails_unmarked, home_at, returns_to, unmarked, unwinds, unwound, written};
 
 use crate::hosting::Hosting;
 use plain_runs::Status;
@@ -148,6 +148,49 @@ impl Hosting {
         self.set_status(Status::Answered(answer));
     }
 
+    // A word of the window that is saved where a frame begins, by its number there.
+    fn saved(&self, at: u32, number: u32) -> u32
+        requires place { IsPlace at }
+        requires number { number < 16 }
+        ensures { result ≡ saved_at (host self.now).machine.memory at number }
+    {
+        saved(&self.machine, at, number)
+    }
+
+    // The home of the youngest activation of the current activity.
+    fn home(&self) -> Home
+        requires some { 0 < (host self.now).machine.regs 4 }
+        requires walked { AreWalked (host self.now).machine.memory ((host self.now).machine.regs 4) ((host self.now).machine.regs 14) }
+        ensures ended { result.ended ≡ ended_older (host self.now) }
+        ensures within { result.ended < (host self.now).machine.regs 4 }
+        ensures at { result.at ≡ home_at (host self.now) }
+    {
+        home_of(&self.machine, self.machine.get(4), self.machine.get(14))
+    }
+
+    // The home's caller goes on with the answer, or the activity has answered, where the windows were flushed.
+    fn unwind_written(&mut self, goal: u32, cost: u32)
+        requires steps { (host self.old).steps < 2 ^ 62 }
+        requires cost { (host self.old).cost < 2 ^ 62 }
+        requires running { (host self.old).current < length (host self.old).statuses }
+        requires some { 0 < (host self.old).machine.regs 4 }
+        requires walked { AreWalked (host self.old).machine.memory ((host self.old).machine.regs 4) ((host self.old).machine.regs 14) }
+        ensures { host self.new ≡ unwound goal cost (host self.old) }
+    {
+        let count = self.register(4);
+        let home = self.home();
+        let ended = home.ended + 1;
+        let next = self.saved(home.at, 14);
+        let back = self.saved(home.at, 15);
+        self.unmark(ended);
+        self.settle(goal, cost);
+        if ended < count {
+            self.return_to(next, back + 8, count - ended);
+        } else {
+            self.answer_from_home();
+        }
+    }
+
     /// A return from a home method, with the answer in %o0: all activations up to the home's end, and its caller goes on with the answer.
     pub fn unwind(&mut self, goal: u32, cost: u32)
         requires steps { (host self.old).steps < 2 ^ 62 }
@@ -157,18 +200,6 @@ impl Hosting {
         ensures { host self.new ≡ unwinds goal cost (host self.old) }
     {
         self.write();
-        let count = self.machine.get(4);
-        let at = self.machine.get(14);
-        let home = home_of(&self.machine, count, at);
-        let ended = home.ended + 1;
-        let next = saved(&self.machine, home.at, 14);
-        let back = saved(&self.machine, home.at, 15);
-        self.unmark(ended);
-        self.settle(goal, cost);
-        if ended < count {
-            self.return_to(next, back + 8, count - ended);
-        } else {
-            self.answer_from_home();
-        }
+        self.unwind_written(goal, cost);
     }
 }

@@ -51,10 +51,13 @@ returns_to at pc left h = record h { machine = taken_up_with at pc left h.machin
 abbrev pub answers_from_home : Host → Host
 answers_from_home h = answered (record h { steps = h.steps + 1 })
 
-abbrev pub unwinds : ℕ → ℕ → Host → Host
-unwinds goal cost h =
-    let w = written h in
+-- so once the windows were flushed
+abbrev pub unwound : ℕ → ℕ → Host → Host
+unwound goal cost w =
     let ended = ended_older w + 1 in
     let home = saved_at w.machine.memory (home_at w) in
     let s = settled goal cost (unmarked ended w) in
     if nat_lt ended (w.machine.regs 4) then returns_to (home 14) (home 15 + 8) (w.machine.regs 4 - ended) s else answers_from_home s
+
+abbrev pub unwinds : ℕ → ℕ → Host → Host
+unwinds goal cost h = unwound goal cost (written h)
