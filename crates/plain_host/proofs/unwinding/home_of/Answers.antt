@@ -25,7 +25,7 @@ loop-ended-preserved c =
     c.outwards-context.ensures ∙ ap (λ q. if nat_eq (saved_at mem q 1) context then saved_at mem q 0 else context) c.saved-home.ensures in
     let fewer : c.args.count - 1 - (ended + 1) ≡ left - 1 = omega arith in
     let same : ending_at mem (c.args.count - 1 - (ended + 1)) (saved_at mem c.saved-home.result 14) c.outwards-context.result
-        ≡ ending_at mem (left - 1) (saved_at mem next 14) (if nat_eq (saved_at mem next 1) context then saved_at mem next 0 else context) =
+    ≡ ending_at mem (left - 1) (saved_at mem next 14) (if nat_eq (saved_at mem next 1) context then saved_at mem next 0 else context) =
     λ i. ending_at mem (fewer i) (saved_at mem (c.saved-home.ensures i) 14) (out i) in
     record {
       within = c.loop-ended-test.true;

@@ -1,9 +1,8 @@
 use Rattle.std.proofs.Common.{◌≡◌, ℕ, ◌+◌, ◌-◌, ◌∙◌, ap, sym, subst, arith}
 use Rattle.sparc_store.specs.Windows.{IsPlace, saved_at}
-use Rattle.plain_runs.specs.Host.{Host}
 use Rattle.plain_runs.specs.Services.{settled}
 use Rattle.plain_unwinds.specs.Frames.{frame_behind}
-use Rattle.plain_unwinds.specs.Services.{answers_from_home, returns_to, unmarked}
+use Rattle.plain_unwinds.specs.Services.{answers_from_home, returns_to}
 use Rattle.plain_host.specs.Hosted.{host}
 use Rattle.plain_host.proofs.Walking.{answered_last, fewer_walked, frame_next, returned}
 use Rattle.plain_host.proofs.hosting.Hosting.unwind_written.Goals as goal
