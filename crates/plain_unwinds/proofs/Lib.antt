@@ -1,0 +1,10 @@
+pub mod Apart
+pub mod Marks
+pub mod Walk
+pub mod Written
+pub mod Changed
+pub mod Failing
+pub mod Taken
+pub mod Trapped
+pub mod Returning
+pub mod Walkable
