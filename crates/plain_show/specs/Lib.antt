@@ -1,0 +1,2 @@
+-- What the frames of activities show, as a host reads them.
+pub mod Reading

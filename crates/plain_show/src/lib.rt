@@ -1,0 +1,11 @@
+// What the frames of an activity show, read off a machine and its host.
+//
+// Model: a frame in words is a `Frame` of frame_walk, and a list of them is what `activations` there gives, the youngest first.
+// Promise: what is read is what machine and host show (`seen` and `waiting` of plain_runs, specs/Host.antt there). Reading takes no memory.
+#![tactic(auto)]
+
+mod frames;
+mod reading;
+
+pub use frames::{FrameList, FrameWords};
+pub use reading::read_waiting;
