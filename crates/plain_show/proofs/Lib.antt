@@ -1,2 +1,3 @@
 pub mod WordLists
 pub mod Walking
+pub mod Flushing

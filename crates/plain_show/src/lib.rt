@@ -8,4 +8,4 @@ mod frames;
 mod reading;
 
 pub use frames::{FrameList, FrameWords};
-pub use reading::read_waiting;
+pub use reading::{read_frames, read_waiting};

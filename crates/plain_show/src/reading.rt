@@ -3,9 +3,10 @@ ghost use Rattle.std.specs.Prelude.{◌≡◌, ◌<◌, ◌≤◌, ◌+◌, ◌*
 ghost use Rattle.sparc_store.specs.Words.{HasFrame};
 ghost use Rattle.sparc_store.specs.Windows.{saved_at};
 ghost use Rattle.frame_walk.specs.Places.{shown};
-ghost use Rattle.plain_runs.specs.Host.{descriptor_at, waiting};
+ghost use Rattle.plain_runs.specs.Host.{descriptor_at, seen, waiting};
 ghost use Rattle.plain_host.specs.Hosted.{host};
 ghost use Rattle.plain_show.specs.Reading.{CanRead, IsReadable};
+ghost use Rattle.plain_show.specs.Showing.{IsAtPoll, flushed_host};
 
 use crate::frames::{FrameList, frame_word};
 use plain_host::Hosting;
@@ -54,4 +55,17 @@ pub fn read_waiting(hosting: &Hosting, sp: u32, pc: u32, count: u32, into: &mut 
         next = saved_word(hosting, at, RETURNS) + 8;
         at = saved_word(hosting, at, FRAME_POINTER);
     }
+}
+
+/// The frames of the current activity, which is at a poll. All of them stand in memory then.
+pub fn read_frames(hosting: &mut Hosting, into: &mut FrameList)
+    requires { IsAtPoll (host hosting.old) }
+    ensures frames { into.new ≡ seen (host hosting.old) }
+    ensures host { host hosting.new ≡ flushed_host (host hosting.old) }
+{
+    let sp = hosting.register(14);
+    let pc = hosting.pc();
+    let count = hosting.register(4);
+    hosting.flush();
+    read_waiting(hosting, sp, pc, count, into);
 }
