@@ -1,3 +1,4 @@
 pub mod WordLists
 pub mod Walking
 pub mod Flushing
+pub mod Shows

@@ -34,14 +34,14 @@ pub struct FrameWords {
 }
 
 impl Model for FrameWords {
-    ghost use Rattle.std.specs.Prelude.{◌≤◌, vec_capacity};
+    ghost use Rattle.std.specs.Prelude.{◌≤◌, vec_len, vec_capacity};
     ghost use Rattle.frame_walk.specs.Places.{Frame};
 
     ghost Value = { Frame };
 
     ghost view = { λ f. record { body = f.body; next = f.next; receiver = f.receiver; holder = f.holder; outer = f.outer; context = f.context; mark = f.mark; locals = f.locals.items; pending = f.pending.items } };
 
-    ghost invariant = { λ f. (79 ≤ vec_capacity f.locals) × (79 ≤ vec_capacity f.pending) };
+    ghost invariant = { λ f. (79 ≤ vec_capacity f.locals) × (79 ≤ vec_capacity f.pending) × (vec_len f.locals ≤ 79) × (vec_len f.pending ≤ 79) };
 }
 
 // The word of a frame at a number from 0, where it has so many.
@@ -59,6 +59,7 @@ fn put_up(hosting: &Hosting, at: u32, count: u32, into: &mut Vec<u32>)
     requires frame { HasFrame at count }
     requires room { count ≤ vec_capacity into.old }
     ensures words { into.new.items ≡ words_up (host hosting.now).machine.memory at count }
+    ensures len { vec_len into.new ≡ count }
     ensures capacity { vec_capacity into.new ≡ vec_capacity into.old }
 {
     into.clear();
@@ -72,6 +73,7 @@ fn put_down(hosting: &Hosting, at: u32, count: u32, into: &mut Vec<u32>)
     requires frame { HasFrame at count }
     requires room { count ≤ vec_capacity into.old }
     ensures words { into.new.items ≡ words_down (host hosting.now).machine.memory at count }
+    ensures len { vec_len into.new ≡ count }
     ensures capacity { vec_capacity into.new ≡ vec_capacity into.old }
 {
     into.clear();
@@ -171,14 +173,16 @@ impl FrameWords {
 
     /// The words of the arguments and locals that stand in the frame.
     pub fn locals(&self) -> &[u32]
-        ensures { result.now ≡ self.now.locals }
+        ensures words { result.now ≡ self.now.locals }
+        ensures few { length result.now ≤ 79 }
     {
         self.locals.as_slice()
     }
 
     /// Its pending words, the youngest first.
     pub fn pending(&self) -> &[u32]
-        ensures { result.now ≡ self.now.pending }
+        ensures words { result.now ≡ self.now.pending }
+        ensures few { length result.now ≤ 79 }
     {
         self.pending.as_slice()
     }

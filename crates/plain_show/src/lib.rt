@@ -6,6 +6,8 @@
 
 mod frames;
 mod reading;
+mod showing;
 
 pub use frames::{FrameList, FrameWords};
 pub use reading::{read_frames, read_waiting};
+pub use showing::show;

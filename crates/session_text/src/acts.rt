@@ -51,6 +51,21 @@ impl ValueList {
         }
     }
 
+    /// None of those that it had.
+    pub fn clear(&mut self)
+        ensures { self.new ≡ [] }
+    {
+        self.values.clear();
+    }
+
+    /// One value more at the end. Takes no memory.
+    pub fn push(&mut self, value: ShownValue)
+        requires { length self.old < 79 }
+        ensures { self.new ≡ self.old ++ value ∷ [] }
+    {
+        self.values.push_reserved(value);
+    }
+
     /// The values in their order.
     pub fn as_slice(&self) -> &[ShownValue]
         ensures { result.now ≡ self.now }
