@@ -2,3 +2,4 @@ pub mod WordLists
 pub mod Walking
 pub mod Flushing
 pub mod Shows
+pub mod Agreeing

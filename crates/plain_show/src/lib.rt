@@ -5,9 +5,13 @@
 #![tactic(auto)]
 
 mod frames;
+mod laws;
 mod reading;
 mod showing;
+mod stacks;
 
 pub use frames::{FrameList, FrameWords};
+pub use laws::stacks_show;
 pub use reading::{read_frames, read_waiting};
 pub use showing::show;
+pub use stacks::StackReader;
