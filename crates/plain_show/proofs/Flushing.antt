@@ -92,20 +92,20 @@ held_reads h pc sp fp run (Polls b n p r room) =
       pending = omega (arith, pending, deep);
     }
 
-entry_place : (k : ℕ) → k < 4 → IsPlace (entry_frame k)
+pub entry_place : (k : ℕ) → k < 4 → IsPlace (entry_frame k)
 entry_place k low = (omega arith, omega arith, omega (arith, low), omega arith)
 
-laid_more : (asked : Asked) (entry end : ℕ) (memory : Words) (n sp : ℕ) (w : Window) (pc : ℕ) (held : List Window) → asked pc sp (w 14) → AreLaid asked entry end memory n (w 14) (frame_before memory (w 14) held) (w 15 + 8) (but_first held)
+pub laid_more : (asked : Asked) (entry end : ℕ) (memory : Words) (n sp : ℕ) (w : Window) (pc : ℕ) (held : List Window) → asked pc sp (w 14) → AreLaid asked entry end memory n (w 14) (frame_before memory (w 14) held) (w 15 + 8) (but_first held)
     → AreLaid asked entry end memory (suc n) sp w pc held
 unfolding AreLaid
 laid_more asked entry end memory n sp w pc held first rest = (first, rest)
 
 module _ (h : Host) (p : IsAtPoll h) where
-  few : h.current < 4
+  pub few : h.current < 4
   few = let r = p.runs in let hosted = p.hosted in omega (arith, slice_get_within h.statuses h.current (Waiting r.view.sp r.view.pc r.view.known) r.view.running, hosted.activities)
 
   -- the frame in view is in a poll, and the others wait
-  laid_now : AreLaid (IsHeld h) (entry_frame h.current) ending_stub h.machine.memory (suc p.runs.view.older) (h.machine.regs 14) (kept h.machine.regs) h.machine.pc h.machine.older
+  pub laid_now : AreLaid (IsHeld h) (entry_frame h.current) ending_stub h.machine.memory (suc p.runs.view.older) (h.machine.regs 14) (kept h.machine.regs) h.machine.pc h.machine.older
   laid_now =
       let r = p.runs in
       let m = h.machine in
@@ -138,7 +138,7 @@ module _ (h : Host) (p : IsAtPoll h) where
   pub few_frames : h.machine.regs 4 ≤ 4096
   few_frames = let c = p.runs.view.count in let f = p.runs.view.few in omega arith
 
-  low : (b : ℕ) → b < 0x20000000 → word_at (flushed (stack_of h.machine)).memory b ≡ word_at h.machine.memory b
+  pub low : (b : ℕ) → b < 0x20000000 → word_at (flushed (stack_of h.machine)).memory b ≡ word_at h.machine.memory b
   low b lt = low_same h.machine.memory (flushed (stack_of h.machine)).memory b (flush_only (stack_of h.machine)) (omega arith)
 
   pub can_read : CanRead (flushed_host h) (h.machine.regs 14) h.machine.pc (h.machine.regs 4)

@@ -3,3 +3,4 @@ pub mod Walking
 pub mod Flushing
 pub mod Shows
 pub mod Agreeing
+pub mod Kept
