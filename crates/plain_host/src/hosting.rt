@@ -3,7 +3,8 @@ ghost use Rattle.plain_host.specs.Hosted.{host};
 ghost use Rattle.std.specs.Prelude.{◌≡◌, ◌<◌, ◌≤◌, ◌+◌, ◌-◌, ◌^◌, length, slice_get, Some};
 ghost use Rattle.source_model.specs.Soundness.{body_in};
 ghost use Rattle.sparc_store.specs.Words.{word_at, HasWord};
-ghost use Rattle.sparc_machine.specs.State.{IsWhole};
+ghost use Rattle.sparc_store.specs.Windows.{CanFlush, flushed};
+ghost use Rattle.sparc_machine.specs.State.{IsWhole, stack_of, with_stack};
 ghost use Rattle.sparc_machine.specs.Running.{Lawful, Ran};
 ghost use Rattle.plain_runs.specs.Host.{point_at};
 ghost use Rattle.plain_runs.specs.Course.{with_machine};
@@ -92,6 +93,14 @@ impl Hosting {
         ensures { result ≡ (host self.now).machine.regs register }
     {
         self.machine.get(register)
+    }
+
+    /// The frames of the current activity stand in its stack, that in view too, which goes on being held alone.
+    pub fn flush(&mut self)
+        requires { CanFlush (stack_of (host self.old).machine) }
+        ensures { host self.new ≡ with_machine (host self.old) (with_stack (host self.old).machine (flushed (stack_of (host self.old).machine))) }
+    {
+        self.machine.flush();
     }
 
     /// The address of the next instruction.

@@ -4,4 +4,5 @@ pub mod Numbers
 pub mod Paths
 pub mod LineSteps
 pub mod Telling
-pub mod Shown
+pub mod ValueTexts
+pub mod FrameSteps

@@ -8,6 +8,7 @@
 // the line that is asked for, and takes no memory.
 #![tactic(auto)]
 
+mod acts;
 mod commands;
 mod laws;
 mod lines;
@@ -15,8 +16,9 @@ mod reading;
 mod scripts;
 mod words;
 
+pub use acts::{Shown, ShownAct, ValueList};
 pub use commands::{Command, PathText, Script};
-pub use laws::{commands_are_told_apart, values_are_shown};
+pub use laws::{commands_are_told_apart, frames_are_shown, values_are_shown};
 pub use lines::{Line, LineText, ShownValue};
 pub use scripts::{ScriptErr, read_script};
 

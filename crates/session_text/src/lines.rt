@@ -1,11 +1,16 @@
 // The lines that a session writes.
-ghost use Rattle.std.specs.Prelude.{◌≡◌, ◌≤◌, ◌<◌, ◌+◌, ◌++◌, [], List, ℕ, length, codes, decimal, IfOk};
-ghost use Rattle.source_model.specs.Lines.{activity_line, error_line, line, object_text, stop_line};
+ghost use Rattle.std.specs.Prelude.{◌≡◌, ◌≤◌, ◌<◌, ◌+◌, ◌-◌, ◌++◌, [], List, ℕ, length, codes, decimal, flat_map, IfOk, slice_get};
+ghost use Rattle.source_model.specs.Lines.{activity_line, error_line, line, local_names, object_text, selector_text, stop_line};
+ghost use Rattle.source_model.specs.Names.{text_named};
+ghost use Rattle.source_model.specs.Soundness.{body_in};
+ghost use Rattle.source_model.specs.Step.{place_at};
 ghost use Rattle.source_model.specs.Texts.{error_text, hex, integer_text, out_line, place_text, shown_byte};
+ghost use Rattle.session_text.specs.Frames.{frame_text, head_text, local_text, locals_text, values_text, pending_text, act_text, ActHasRoom};
 ghost use Rattle.session_text.specs.LineTexts.{HasRoom, advisor_line, block_text, check_line, done_line, edit_mark, line_text, maker_text, placed_line, refused_line, shown_text, spot_text};
 
+use crate::acts::{Shown, ShownAct};
 use itoa::Buffer;
-use self_terms::{BodyId, ErrorName, OutOfMemory, Place};
+use self_terms::{Body, BodyId, BodyList, ErrorName, Name, Names, OutOfMemory, Place};
 use source_model::Core;
 use std::alloc::Global;
 use std::marker::Model;
@@ -57,6 +62,14 @@ pub enum LineText<'a> {
         name: ErrorName,
         steps: u64,
         at: Place,
+    },
+    /// The activation at a position, from 1 for the oldest.
+    Frame {
+        shown: &'a Shown,
+        position: u32,
+        core: Core,
+        names: &'a Names,
+        bodies: &'a BodyList,
     },
     /// Bytes that a program printed.
     Out(&'a [u8]),
@@ -133,6 +146,15 @@ impl Line {
             }
             LineText::Error { name, steps, at } => {
                 self.put_error(name, steps, at);
+            }
+            LineText::Frame {
+                shown,
+                position,
+                core,
+                names,
+                bodies,
+            } => {
+                self.put_frame(shown, position, core, names, bodies);
             }
             LineText::Out(bytes) => {
                 self.put_out(bytes);
@@ -372,6 +394,130 @@ impl Line {
         self.put_bytes(b"\n");
     }
 
+    // The name of a body's slot; that of a block is `block`.
+    fn put_selector(&mut self, names: &Names, name: Option<u32>)
+        requires { length self.old + length (selector_text names.now name) ≤ 4200000 }
+        ensures text { self.new ≡ self.old ++ selector_text names.now name }
+        ensures len { length self.new ≡ length self.old + length (selector_text names.now name) }
+    {
+        match name {
+            Some(name) => {
+                self.put_bytes(text_named(names, name));
+            }
+            None => {
+                self.put_bytes(b"block");
+            }
+        }
+    }
+
+    // A local with its name.
+    fn put_local(&mut self, core: Core, names: &Names, name: u32, value: ShownValue)
+        requires { length self.old + length (local_text core names.now (name, value)) ≤ 4000000 }
+        ensures text { self.new ≡ self.old ++ local_text core names.now (name, value) }
+        ensures len { length self.new ≡ length self.old + length (local_text core names.now (name, value)) }
+    {
+        self.put_bytes(b" ");
+        self.put_bytes(text_named(names, name));
+        self.put_bytes(b"=");
+        self.put_value(core, value);
+    }
+
+    // The locals of a body with their values.
+    fn put_locals(&mut self, core: Core, names: &Names, body: &Body, values: &[ShownValue])
+        requires { length self.old + length (locals_text core names.now (local_names body.now) values.now) ≤ 4000000 }
+        ensures text { self.new ≡ self.old ++ locals_text core names.now (local_names body.now) values.now }
+        ensures len { length self.new ≡ length self.old + length (locals_text core names.now (local_names body.now) values.now) }
+    {
+        for k in 0..values.len() {
+            let Some(name) = local_name(body, k) else {
+                return;
+            };
+            self.put_local(core, names, name, values[k]);
+        }
+    }
+
+    // Values, each behind a space.
+    fn put_more(&mut self, core: Core, values: &[ShownValue])
+        requires { length self.old + length (flat_map (λ v. codes " " ++ shown_text core v) values.now) ≤ 4000000 }
+        ensures text { self.new ≡ self.old ++ flat_map (λ v. codes " " ++ shown_text core v) values.now }
+        ensures len { length self.new ≡ length self.old + length (flat_map (λ v. codes " " ++ shown_text core v) values.now) }
+    {
+        for value in values {
+            self.put_bytes(b" ");
+            self.put_value(core, *value);
+        }
+    }
+
+    // Values with a space between each two.
+    fn put_values(&mut self, core: Core, values: &[ShownValue])
+        requires { length self.old + length (values_text core values.now) ≤ 4000000 }
+        ensures text { self.new ≡ self.old ++ values_text core values.now }
+        ensures len { length self.new ≡ length self.old + length (values_text core values.now) }
+    {
+        if values.is_empty() {
+            return;
+        }
+        self.put_value(core, values[0]);
+        self.put_more(core, &values[1..]);
+    }
+
+    // Pending values.
+    fn put_pending(&mut self, core: Core, values: &[ShownValue])
+        requires { length self.old + length (pending_text core values.now) ≤ 4000000 }
+        ensures text { self.new ≡ self.old ++ pending_text core values.now }
+        ensures len { length self.new ≡ length self.old + length (pending_text core values.now) }
+    {
+        self.put_bytes(b" [");
+        self.put_values(core, values);
+        self.put_bytes(b"]");
+    }
+
+    // An activation of a body, up to its receiver.
+    fn put_head(&mut self, core: Core, names: &Names, body: &Body, position: u32, act: &ShownAct)
+        requires empty { self.old ≡ [] }
+        requires within { length (head_text core names.now body.now position act.now) ≤ 4000000 }
+        ensures { self.new ≡ head_text core names.now body.now position act.now }
+    {
+        self.put_bytes(b"frame ");
+        self.put_number(position as u64);
+        self.put_bytes(b" ");
+        self.put_selector(names, body.name);
+        self.put_bytes(b" ");
+        self.put_place(place_at(body, act.next));
+        self.put_bytes(b" self ");
+        self.put_value(core, act.receiver);
+    }
+
+    // An activation of a body.
+    fn put_act(&mut self, core: Core, names: &Names, body: &Body, position: u32, act: &ShownAct)
+        requires empty { self.old ≡ [] }
+        requires within { length (frame_text core names.now body.now position act.now) ≤ 4000000 }
+        ensures { self.new ≡ frame_text core names.now body.now position act.now }
+    {
+        self.put_head(core, names, body, position, act);
+        self.put_locals(core, names, body, act.locals.as_slice());
+        self.put_pending(core, act.pending.as_slice());
+        self.put_bytes(b"\n");
+    }
+
+    // The activation at a position.
+    fn put_frame(
+        &mut self,
+        shown: &Shown,
+        position: u32,
+        core: Core,
+        names: &Names,
+        bodies: &BodyList,
+    )
+        requires empty { self.old ≡ [] }
+        requires given { 0 < position }
+        requires within { ActHasRoom core names.now bodies.now position (slice_get shown.now (position - 1)) }
+        ensures { self.new ≡ act_text core names.now bodies.now position (slice_get shown.now (position - 1)) }
+    {
+        let act = shown.at(position);
+        self.put_act(core, names, bodies.at(act.body.0), position, act);
+    }
+
     // A printed byte, as it is shown.
     fn put_shown(&mut self, byte: u8)
         requires { length self.old + 4 ≤ 4200000 }
@@ -412,6 +558,44 @@ impl Line {
             self.put_shown(*byte);
         }
         self.put_bytes(b"\n");
+    }
+}
+
+// The text of a name; none where it has none.
+fn text_named(names: &Names, name: u32) -> &[u8]
+    ensures { result.now ≡ text_named names.now name }
+{
+    if name == 0 || name as usize > names.len() {
+        return b"";
+    }
+    names.text(Name(name))
+}
+
+// The name of the argument or local at a number from 0, arguments first; none past the last.
+fn local_name(body: &Body, k: usize) -> Option<u32>
+    ensures { result ≡ slice_get (local_names body.now) k }
+{
+    let arguments = body.arguments.as_slice();
+    if k < arguments.len() {
+        return Some(arguments[k]);
+    }
+    match body.locals.as_slice().get(k - arguments.len()) {
+        Some(local) => Some(local.name),
+        None => None,
+    }
+}
+
+// The place of a node of a body.
+fn place_at(body: &Body, node: u32) -> Place
+    ensures { result ≡ place_at body.now node }
+{
+    match body.places.get(node as usize) {
+        Some(place) => place,
+        None => Place {
+            edit: 0,
+            line: 0,
+            column: 0,
+        },
     }
 }
 

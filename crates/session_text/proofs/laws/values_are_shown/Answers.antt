@@ -1,4 +1,4 @@
-use Rattle.session_text.proofs.Shown.{values_show, done_lines_show}
+use Rattle.session_text.proofs.ValueTexts.{values_show, done_lines_show}
 use Rattle.session_text.proofs.laws.values_are_shown.Goals as goal
 
 pub returns-clause-ended : goal.returns-clause-ended
