@@ -47,31 +47,31 @@ module _ (bodies : List Body) (n k : ℕ) (b : Body) (node : Node) (same : body_
       ∙ first_passes (nat_le (taken node) (depth b.nodes k)) (rest node b) e
       ∙ first_passes (not (is_inner node) || nat_lt (k + 1) (length b.nodes)) (names_test bodies n node) f
 
-module _ (w : World) where
+module _ (w : World) (names : List (List ℕ)) where
   abbrev core : Bool
-  core = core_test (begun w w.names 0)
+  core = core_test (begun w names 0)
 
   abbrev fit : Bool
   fit = below_pass (length w.bodies) (λ k. fit_test w.bodies (k + 1))
 
   abbrev said : Bool
-  said = each_passes (said_test w.names (length w.things)) w.bodies
+  said = each_passes (said_test names (length w.things)) w.bodies
 
   abbrev things : Bool
-  things = each_passes (thing_test w.names w.bodies (length w.things)) w.things
+  things = each_passes (thing_test names w.bodies (length w.things)) w.things
 
-  parts : can_begin (begun w w.names 0) ≡ (core && (fit && (said && things)))
+  parts : can_begin (begun w names 0) ≡ (core && (fit && (said && things)))
   unfolding can_begin
   parts = refl
 
-  pub no_core : core ≡ false → can_begin (begun w w.names 0) ≡ false
+  pub no_core : core ≡ false → can_begin (begun w names 0) ≡ false
   no_core e = parts ∙ first_fails core (fit && (said && things)) e
 
-  pub not_fit : core ≡ true → fit ≡ false → can_begin (begun w w.names 0) ≡ false
+  pub not_fit : core ≡ true → fit ≡ false → can_begin (begun w names 0) ≡ false
   not_fit e f = parts ∙ first_passes core (fit && (said && things)) e ∙ first_fails fit (said && things) f
 
-  pub not_said : core ≡ true → fit ≡ true → said ≡ false → can_begin (begun w w.names 0) ≡ false
+  pub not_said : core ≡ true → fit ≡ true → said ≡ false → can_begin (begun w names 0) ≡ false
   not_said e f g = parts ∙ first_passes core (fit && (said && things)) e ∙ first_passes fit (said && things) f ∙ first_fails said things g
 
-  pub by_things : core ≡ true → fit ≡ true → said ≡ true → can_begin (begun w w.names 0) ≡ things
+  pub by_things : core ≡ true → fit ≡ true → said ≡ true → can_begin (begun w names 0) ≡ things
   by_things e f g = parts ∙ first_passes core (fit && (said && things)) e ∙ first_passes fit (said && things) f ∙ first_passes said things g

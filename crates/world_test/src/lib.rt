@@ -2,7 +2,7 @@
 //
 // Model: `can_begin` of source_model (`specs/Testing.antt` there) over `begun` of world_state: each node of a body finds the values that it takes
 // and what it names, what nodes, locals and slots speak of is there, and the core objects are.
-// Promise: `can_begin` says just that, takes no memory, and looks at each node, local and slot once. Where it says so, the session is
+// Promise: `can_begin_with` says just that with any names, `can_begin` with those of the world; it takes no memory, and looks at each node, local and slot once. Where it says so, the session is
 // well formed at its beginning (`can_begin_tells`).
 #![tactic(auto)]
 
@@ -15,4 +15,4 @@ mod slots;
 mod worlds;
 
 pub use laws::can_begin_tells;
-pub use worlds::can_begin;
+pub use worlds::{can_begin, can_begin_with};

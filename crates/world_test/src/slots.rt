@@ -21,24 +21,24 @@ fn plain_test(things: usize, value: Value) -> bool
 }
 
 // Whether a body is there, is no block's, and takes as many arguments as the name of its slot says.
-fn method_test(world: &World, n: u32, body: BodyId) -> bool
-    ensures { result ≡ content_test world.now.names world.now.bodies (length world.now.things) n (Content.Method body) }
+fn method_test(world: &World, names: &Names, n: u32, body: BodyId) -> bool
+    ensures { result ≡ content_test names.now world.now.bodies (length world.now.things) n (Content.Method body) }
 {
     body_test(world, body.0)
-        && takes_test(world.names(), n, arguments_in(world, body.0))
+        && takes_test(names, n, arguments_in(world, body.0))
         && outer_in(world, body.0).is_none()
 }
 
 // Whether what a slot of a name holds is there and fits its name.
-fn content_test(world: &World, n: u32, content: Content) -> bool
-    ensures { result ≡ content_test world.now.names world.now.bodies (length world.now.things) n content }
+fn content_test(world: &World, names: &Names, n: u32, content: Content) -> bool
+    ensures { result ≡ content_test names.now world.now.bodies (length world.now.things) n content }
 {
     match content {
         Content::Constant(value) => plain_test(world.things().len(), value),
         Content::Assignable(value) => plain_test(world.things().len(), value),
-        Content::Assignment => takes_test(world.names(), n, 1),
+        Content::Assignment => takes_test(names, n, 1),
         Content::Parent(object) => (object as usize) < world.things().len(),
-        Content::Method(body) => method_test(world, n, body),
+        Content::Method(body) => method_test(world, names, n, body),
     }
 }
 
@@ -74,10 +74,10 @@ fn follows_test(names: &Names, front: Option<Slot>, slot: Slot) -> bool
 }
 
 // Whether a slot passes, where this one is in front of it.
-fn slot_test(world: &World, front: Option<Slot>, slot: Slot) -> bool
-    ensures { result ≡ (content_test world.now.names world.now.bodies (length world.now.things) slot.name slot.content && follows_test world.now.names front slot) }
+fn slot_test(world: &World, names: &Names, front: Option<Slot>, slot: Slot) -> bool
+    ensures { result ≡ (content_test names.now world.now.bodies (length world.now.things) slot.name slot.content && follows_test names.now front slot) }
 {
-    content_test(world, slot.name, slot.content) && follows_test(world.names(), front, slot)
+    content_test(world, names, slot.name, slot.content) && follows_test(names, front, slot)
 }
 
 fn slot_at(slots: &Slots, at: usize) -> Slot
@@ -91,14 +91,14 @@ fn slot_at(slots: &Slots, at: usize) -> Slot
 }
 
 // Whether each slot passes. Each name stands once in any list of slots, so this part of the test is passed.
-fn slots_test(world: &World, slots: &Slots) -> bool
-    ensures { result ≡ slots_test world.now.names world.now.bodies (length world.now.things) None slots.now }
+fn slots_test(world: &World, names: &Names, slots: &Slots) -> bool
+    ensures { result ≡ slots_test names.now world.now.bodies (length world.now.things) None slots.now }
 {
     slots.have_each_once();
     let mut front = None;
     for at in 0..slots.len() {
         let slot = slot_at(slots, at);
-        if !slot_test(world, front, slot) {
+        if !slot_test(world, names, front, slot) {
             return false;
         }
         front = Some(slot);
@@ -118,11 +118,11 @@ fn items_test(things: usize, items: &[Value]) -> bool
 }
 
 /// Whether what an object holds is there and fits.
-pub fn thing_test(world: &World, thing: &Thing) -> bool
-    ensures { result ≡ thing_test world.now.names world.now.bodies (length world.now.things) thing.now }
+pub fn thing_test(world: &World, names: &Names, thing: &Thing) -> bool
+    ensures { result ≡ thing_test names.now world.now.bodies (length world.now.things) thing.now }
 {
     match thing {
-        Thing::Plain(slots) => slots_test(world, slots),
+        Thing::Plain(slots) => slots_test(world, names, slots),
         Thing::Vector(items) => items_test(world.things().len(), items.as_slice()),
         Thing::Text(_) => true,
     }

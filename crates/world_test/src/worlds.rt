@@ -34,12 +34,12 @@ fn failure_test(names: &Names, fixed: u32, things: usize) -> bool
     fixed as usize + 26 <= things && takes_test(names, number_of(names, b"value:With:"), 2)
 }
 
-fn core_test(world: &World) -> bool
-    requires { length world.now.names ≤ 450000000 }
-    ensures { result ≡ core_test (begun world.now world.now.names 0) }
+fn core_test(world: &World, names: &Names) -> bool
+    requires { length names.now ≤ 450000000 }
+    ensures { result ≡ core_test (begun world.now names.now 0) }
 {
     let things = world.things().len();
-    objects_test(world.core(), things) && failure_test(world.names(), world.objects(), things)
+    objects_test(world.core(), things) && failure_test(names, world.objects(), things)
 }
 
 fn bodies_fit(world: &World) -> bool
@@ -53,10 +53,9 @@ fn bodies_fit(world: &World) -> bool
     true
 }
 
-fn bodies_said(world: &World) -> bool
-    ensures { result ≡ each_passes (said_test world.now.names (length world.now.things)) world.now.bodies }
+fn bodies_said(world: &World, names: &Names) -> bool
+    ensures { result ≡ each_passes (said_test names.now (length world.now.things)) world.now.bodies }
 {
-    let names = world.names();
     let things = world.things().len();
     for k in 0..world.bodies() {
         if !said_test(names, things, world.body(BodyId(k + 1))) {
@@ -66,30 +65,39 @@ fn bodies_said(world: &World) -> bool
     true
 }
 
-fn things_test(world: &World) -> bool
-    ensures { result ≡ each_passes (thing_test world.now.names world.now.bodies (length world.now.things)) world.now.things }
+fn things_test(world: &World, names: &Names) -> bool
+    ensures { result ≡ each_passes (thing_test names.now world.now.bodies (length world.now.things)) world.now.things }
 {
     for thing in world.things() {
-        if !thing_test(world, thing) {
+        if !thing_test(world, names, thing) {
             return false;
         }
     }
     true
 }
 
-/// Whether a session over a world may begin.
-pub fn can_begin(world: &World) -> bool
-    requires few { length world.now.names ≤ 450000000 }
-    ensures { result ≡ can_begin (begun world.now world.now.names 0) }
+/// Whether a session over a world may begin with these names: those of the world, and perhaps further ones behind them.
+pub fn can_begin_with(world: &World, names: &Names) -> bool
+    requires few { length names.now ≤ 450000000 }
+    ensures { result ≡ can_begin (begun world.now names.now 0) }
 {
-    if !core_test(world) {
+    if !core_test(world, names) {
         return false;
     }
     if !bodies_fit(world) {
         return false;
     }
-    if !bodies_said(world) {
+    if !bodies_said(world, names) {
         return false;
     }
-    things_test(world)
+    things_test(world, names)
+}
+
+/// The same with the names of the world alone. It is false where the text of the world has no message `value:With:`, which a failed
+/// primitive sends.
+pub fn can_begin(world: &World) -> bool
+    requires few { length world.now.names ≤ 450000000 }
+    ensures { result ≡ can_begin (begun world.now world.now.names 0) }
+{
+    can_begin_with(world, world.names())
 }

@@ -5,4 +5,4 @@ use Rattle.world_test.proofs.slots.slots_test.Given as goal
 
 -- what is left passes where all do
 abbrev pub invariant-loop-at : goal.invariant-loop-at
-invariant-loop-at l = slots_test l.world.names l.world.bodies (length l.world.things) l.front (drop l.at l.slots) ≡ slots_test l.world.names l.world.bodies (length l.world.things) None l.slots
+invariant-loop-at l = slots_test l.names l.world.bodies (length l.world.things) l.front (drop l.at l.slots) ≡ slots_test l.names l.world.bodies (length l.world.things) None l.slots
