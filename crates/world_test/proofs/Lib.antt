@@ -4,3 +4,4 @@ pub mod Once
 pub mod Texts
 pub mod Tells
 pub mod Parts
+pub mod Copying

@@ -7,6 +7,7 @@
 #![tactic(auto)]
 
 mod bodies;
+mod further;
 mod laws;
 mod names;
 mod nodes;
@@ -14,5 +15,6 @@ mod said;
 mod slots;
 mod worlds;
 
+pub use further::session_names;
 pub use laws::can_begin_tells;
 pub use worlds::{can_begin, can_begin_with};

@@ -102,7 +102,7 @@ pub fn assigns_name(names: &Names, setter: u32, name: u32) -> bool
 
 /// The number of a text among the names, from 1; 0 where it has none.
 pub fn number_of(names: &Names, text: &[u8]) -> u32
-    requires { length names.now ≤ 450000000 }
+    requires { length names.now ≤ 500000000 }
     ensures { result ≡ number_of names.now text.now }
 {
     for at in 0..names.len() {

@@ -28,14 +28,14 @@ fn objects_test(core: Core, things: usize) -> bool
 
 // Whether the strings that every world has are there, and the message that a failed primitive sends takes two arguments.
 fn failure_test(names: &Names, fixed: u32, things: usize) -> bool
-    requires { length names.now ≤ 450000000 }
+    requires { length names.now ≤ 500000000 }
     ensures { result ≡ (nat_le (fixed + 26) things && takes_test names.now (number_of names.now (codes "value:With:")) 2) }
 {
     fixed as usize + 26 <= things && takes_test(names, number_of(names, b"value:With:"), 2)
 }
 
 fn core_test(world: &World, names: &Names) -> bool
-    requires { length names.now ≤ 450000000 }
+    requires { length names.now ≤ 500000000 }
     ensures { result ≡ core_test (begun world.now names.now 0) }
 {
     let things = world.things().len();
@@ -78,7 +78,7 @@ fn things_test(world: &World, names: &Names) -> bool
 
 /// Whether a session over a world may begin with these names: those of the world, and perhaps further ones behind them.
 pub fn can_begin_with(world: &World, names: &Names) -> bool
-    requires few { length names.now ≤ 450000000 }
+    requires few { length names.now ≤ 500000000 }
     ensures { result ≡ can_begin (begun world.now names.now 0) }
 {
     if !core_test(world, names) {
