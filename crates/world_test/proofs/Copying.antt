@@ -3,11 +3,12 @@ use Rattle.std.specs.Prelude.{◌≡◌, ℕ, zero, suc, ◌+◌, ◌<◌, ◌�
 use Rattle.std.specs.List.{list_any}
 use Rattle.std.specs.Cmp.Lexicographic.{pointwise}
 use Rattle.std.proofs.Common.{ap, sym, subst, ◌∙◌, arith, inl, inr}
-use Rattle.std.proofs.lemmas.Bool.{cases_Bool}
+use Rattle.std.proofs.lemmas.Bool.{and_parts, cases_Bool}
 use Rattle.self_terms.specs.Names.{HasEachOnce, text_of, with_text}
 use Rattle.source_model.proofs.Naming.{same_text}
 use Rattle.world_build.proofs.NameLemmas.{length-with_text}
-use Rattle.world_test.specs.Further.{StartsFixed}
+use Rattle.source_model.specs.Names.{is_text}
+use Rattle.world_test.specs.Further.{is_given, starts_fixed}
 
 any_none : (p : List ℕ → Bool) (xs : List (List ℕ)) → ((j : ℕ) (y : List ℕ) → slice_get xs j ≡ Some y → p y ≡ false) → list_any p xs ≡ false
 any_none p [] h = refl
@@ -38,7 +39,7 @@ took (y ∷ xs) zero x e = cc
 took (y ∷ xs) (suc at) x e = ap (λ zs. y ∷ zs) (took xs at x e)
 
 pub given : (names copy new : List (List ℕ)) (at n : ℕ) (x : List ℕ) → HasEachOnce names → n ≡ suc at → text_of names n ≡ Some x
-    → (StartsFixed names → copy ≡ take at names) → new ≡ with_text copy x → StartsFixed names → new ≡ take (at + 1) names
+    → (starts_fixed names ≡ true → copy ≡ take at names) → new ≡ with_text copy x → starts_fixed names ≡ true → new ≡ take (at + 1) names
 given names copy new at n x once same named so e fixed =
     let here : slice_get names at ≡ Some x = (let P : ℕ → Type 0 = λ k. text_of names k ≡ Some x in subst P same named) in
     let more : suc at ≡ at + 1 = omega arith in
@@ -48,14 +49,14 @@ given names copy new at n x once same named so e fixed =
     ∙ took names at x here
     ∙ ap (λ k. take k names) more
 
-pub first_two : (names : List (List ℕ)) → StartsFixed names → codes "_IntAdd:" ∷ codes "_IntSub:" ∷ [] ≡ take 2 names
-first_two names fixed = sym (ap (take 2) fixed.1)
-
-pub whole : (names : List (List ℕ)) (at : ℕ) → length names ≤ at → take at names ≡ names
-whole [] zero h = refl
-whole [] (suc at) h = refl
-whole (x ∷ xs) zero h = absurd (omega arith)
-whole (x ∷ xs) (suc at) h = ap (λ zs. x ∷ zs) (whole xs at (omega arith))
+pub first_two : (names : List (List ℕ)) → starts_fixed names ≡ true → codes "_IntAdd:" ∷ codes "_IntSub:" ∷ [] ≡ take 2 names
+first_two [] e = absurd (cc)
+first_two (x ∷ []) e = absurd (let bad = (and_parts (is_text x (codes "_IntAdd:")) false e).1 in cc)
+first_two (x ∷ y ∷ rest) e =
+    let h = and_parts (is_text x (codes "_IntAdd:")) (is_text y (codes "_IntSub:")) e in
+    let a = same_text x (codes "_IntAdd:") h.0 in
+    let b = same_text y (codes "_IntSub:") h.1 in
+    λ i. sym a i ∷ sym b i ∷ []
 
 pub few_more : (names new : List (List ℕ)) (x : List ℕ) → new ≡ with_text names x → length new ≤ length names + 1
 few_more names new x e = subst (λ (ns : List (List ℕ)). length ns ≤ length names + 1) (sym e) (length-with_text names x)

@@ -15,6 +15,6 @@ mod said;
 mod slots;
 mod worlds;
 
-pub use further::session_names;
+pub use further::{session_names, starts_fixed};
 pub use laws::can_begin_tells;
 pub use worlds::{can_begin, can_begin_with};

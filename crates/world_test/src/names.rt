@@ -44,7 +44,7 @@ fn arity(text: &[u8]) -> usize
 }
 
 /// The text of a number; none where no text has it.
-fn text_of(names: &Names, n: u32) -> Option<&[u8]>
+pub fn text_of(names: &Names, n: u32) -> Option<&[u8]>
     ensures { option_map (λ t. t.now) result ≡ text_of names.now n }
 {
     if n == 0 {

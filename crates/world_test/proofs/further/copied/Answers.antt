@@ -1,6 +1,13 @@
-use Rattle.std.proofs.Common.{◌+◌, ◌∙◌, arith, refl}
-use Rattle.world_test.proofs.Copying.{few_more, given}
+use Rattle.std.proofs.Common.{◌+◌, ◌∙◌, ap, arith, length}
+use Rattle.world_test.proofs.Copying.{few_more, first_two, given}
 use Rattle.world_test.proofs.further.copied.Goals as goal
+
+pub loop-at-init : goal.loop-at-init
+loop-at-init c = record {
+  same = λ fixed. c.in_ok-copy.ensures.names ∙ first_two c.args.names.now fixed;
+  few = omega (arith, ap length c.in_ok-copy.ensures.names);
+  within = omega arith;
+}
 
 pub loop-at-preserved : goal.loop-at-preserved
 loop-at-preserved c = record {
