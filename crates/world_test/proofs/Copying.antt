@@ -1,5 +1,5 @@
 -- Names that are given to the same texts once more.
-use Rattle.std.specs.Prelude.{◌≡◌, ℕ, zero, suc, ◌+◌, ◌<◌, ◌≤◌, ◌||◌, nat_eq, Bool, true, false, None, Some, List, [], ◌∷◌, ◌++◌, if◌then◌else◌, length, take, slice_get, codes, refl}
+use Rattle.std.specs.Prelude.{◌≡◌, ℕ, zero, suc, ◌+◌, ◌<◌, ◌≤◌, ◌||◌, nat_eq, Bool, true, false, Some, List, [], ◌∷◌, ◌++◌, if◌then◌else◌, length, take, slice_get, codes, refl}
 use Rattle.std.specs.List.{list_any}
 use Rattle.std.specs.Cmp.Lexicographic.{pointwise}
 use Rattle.std.proofs.Common.{ap, sym, subst, ◌∙◌, arith, inl, inr}
@@ -8,7 +8,7 @@ use Rattle.self_terms.specs.Names.{HasEachOnce, text_of, with_text}
 use Rattle.source_model.proofs.Naming.{same_text}
 use Rattle.world_build.proofs.NameLemmas.{length-with_text}
 use Rattle.source_model.specs.Names.{is_text}
-use Rattle.world_test.specs.Further.{is_given, starts_fixed}
+use Rattle.world_test.specs.Further.{starts_fixed}
 
 any_none : (p : List ℕ → Bool) (xs : List (List ℕ)) → ((j : ℕ) (y : List ℕ) → slice_get xs j ≡ Some y → p y ≡ false) → list_any p xs ≡ false
 any_none p [] h = refl

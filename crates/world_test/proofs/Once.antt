@@ -1,6 +1,6 @@
 -- The test of slots, as far as it has come. Where each name stands once, none is met again.
-use Rattle.std.specs.Prelude.{◌≡◌, ℕ, zero, suc, ◌+◌, ◌<◌, ◌≤◌, ◌&&◌, Bool, true, false, not, is_some, cond, Option, None, Some, List, [], ◌∷◌, length, take, drop, slice_get, refl}
-use Rattle.std.proofs.Common.{ap, sym, subst, ◌∙◌, arith}
+use Rattle.std.specs.Prelude.{◌≡◌, ℕ, zero, suc, ◌+◌, ◌≤◌, ◌&&◌, Bool, true, false, not, is_some, cond, Option, None, Some, List, [], ◌∷◌, length, take, drop, slice_get, refl}
+use Rattle.std.proofs.Common.{ap, sym, subst, ◌∙◌}
 use Rattle.std.proofs.lemmas.Bool.{ne_eqb, eqb-false}
 use Rattle.self_terms.specs.declared.bodies.Body.{Body}
 use Rattle.world_build.proofs.Fronts.{drop_there}

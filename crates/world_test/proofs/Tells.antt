@@ -1,5 +1,5 @@
 -- A state of which the test is passed is well formed, whatever the number of advisors.
-use Rattle.std.specs.Prelude.{◌≡◌, ℕ, true, List, refl}
+use Rattle.std.specs.Prelude.{◌≡◌, ℕ, List, refl}
 use Rattle.std.proofs.Common.{◌∙◌}
 use Rattle.source_model.specs.Testing.{can_begin}
 use Rattle.source_model.proofs.Beginning.{begins}

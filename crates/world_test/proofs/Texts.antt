@@ -1,5 +1,5 @@
 -- Texts, and one with a colon behind it.
-use Rattle.std.specs.Prelude.{◌≡◌, ℕ, zero, suc, ◌+◌, ◌&&◌, ◌==◌, nat_eq, Bool, true, false, None, Some, List, [], ◌∷◌, ◌++◌, if◌then◌else◌, length, drop, slice_get, codes, refl}
+use Rattle.std.specs.Prelude.{◌≡◌, ℕ, suc, ◌+◌, ◌&&◌, nat_eq, Bool, true, false, Some, List, [], ◌∷◌, ◌++◌, if◌then◌else◌, length, drop, slice_get, codes, refl}
 use Rattle.std.proofs.Common.{ap, sym, subst, ◌∙◌, arith}
 use Rattle.std.proofs.lemmas.Bool.{and_right}
 use Rattle.std.specs.Cmp.Lexicographic.{pointwise}

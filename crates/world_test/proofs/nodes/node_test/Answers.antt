@@ -1,8 +1,7 @@
-use Rattle.std.proofs.Common.{◌∙◌, ◌≡◌, ◌≤◌, sym, subst, true, false, arith}
-use Rattle.std.specs.Prelude.{nat_le}
-use Rattle.std.proofs.lemmas.Bool.{le-leb, lt-leb}
+use Rattle.std.proofs.Common.{sym, arith}
+use Rattle.std.proofs.lemmas.Bool.{lt-leb}
 use Rattle.self_terms.specs.Depths.{taken, depth}
-use Rattle.world_test.proofs.Parts.{node_lacks, node_alone, node_names}
+use Rattle.world_test.proofs.Parts.{node_lacks}
 use Rattle.world_test.proofs.nodes.node_test.Goals as goal
 
 pub returns-then-taken-over : goal.returns-then-taken-over
