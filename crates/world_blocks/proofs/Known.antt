@@ -1,7 +1,7 @@
 -- A world's heap behind the maps of a session, and where a session begins.
 use Rattle.std.proofs.Common.{◌≡◌, inl, inr, refl, sym, ap, subst, ◌∙◌, ℕ, zero, suc, ◌+◌, ◌-◌, ◌<◌, ◌≤◌, List, [], ◌∷◌, ◌++◌, length, get_or, arith}
 use Rattle.std.specs.Prelude.{Option, None, Some, slice_get, unwrap_or}
-use Rattle.std.proofs.lemmas.Bool.{cases_lt, cases_eq}
+use Rattle.std.proofs.lemmas.Bool.{cases_lt}
 use Rattle.std.proofs.lemmas.List.{append_assoc, get_or_past}
 use Rattle.std.proofs.lemmas.Option.{none-some, same_Some, slice_get_within, get_or_from_slice_get}
 use Rattle.self_terms.specs.declared.bodies.Body.{Body}
@@ -30,7 +30,7 @@ use Rattle.raw_steps.proofs.Beginning.{begins_is}
 use Rattle.world_build.specs.Wholeness.{IsWhole}
 use Rattle.world_build.specs.Worlds.{World}
 use Rattle.world_heap.specs.Heaps.{places, references_from, heap_of, HasHeap}
-use Rattle.world_heap.specs.Images.{Image, kin as kin_map}
+use Rattle.world_heap.specs.Images.{Image}
 use Rattle.world_heap.specs.Layout.{reference}
 use Rattle.world_heap.specs.Stands.{Stands as StandsFor}
 use Rattle.world_state.specs.Begun.{begun}
@@ -38,7 +38,7 @@ use Rattle.world_begins.specs.Fresh.{IsFresh, BeginsCore}
 use Rattle.world_begins.proofs.Alone.{world_alone}
 use Rattle.world_begins.proofs.Unnamed.{no_block_map}
 use Rattle.world_blocks.specs.Sessions.{session_names, block_traits, block_map, own_block_map, block_maps, session_maps, session_image}
-use Rattle.world_blocks.proofs.Mapped.{maps_of_blocks, IsOf, is_of, behind, in_front, how_many}
+use Rattle.world_blocks.proofs.Mapped.{maps_of_blocks, IsOf, is_of, behind, in_front}
 
 -- the references to objects, by their numbers
 pub reference_there : (w : World) (k j n : ℕ) (xs : List Thing) → n ≡ k + j → j < length xs → slice_get (references_from w k xs) j ≡ Some (reference w.things n)

@@ -7,7 +7,6 @@ use Rattle.self_terms.specs.declared.bodies.Body.{Body}
 use Rattle.object_maps.specs.Slots.{Slots, slots_in}
 use Rattle.source_model.specs.Names.{number_of, evaluator}
 use Rattle.source_model.specs.Soundness.{body_in, HasBody}
-use Rattle.heap_cells.specs.Heaps.{IsBlockMap}
 use Rattle.heap_cells.proofs.Numbered.{got_if}
 use Rattle.world_build.specs.Worlds.{World}
 use Rattle.world_heap.specs.Images.{Image}

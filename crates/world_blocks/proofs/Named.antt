@@ -1,12 +1,12 @@
 -- The names of a world keep their numbers in a session, and the texts of the session have names.
-use Rattle.std.proofs.Common.{◌≡◌, inl, inr, refl, sym, ◌∙◌, subst, ℕ, zero, suc, ◌+◌, ◌<◌, ◌≤◌, ◌≢◌, true, false, List, [], ◌∷◌, ◌++◌, length, arith, ltb}
-use Rattle.std.specs.Prelude.{nat_eq, Option, Some, slice_get}
+use Rattle.std.proofs.Common.{◌≡◌, ◌⊎◌, inl, inr, refl, sym, ap, subst, ◌∙◌, ℕ, zero, suc, ◌+◌, ◌<◌, ◌≢◌, Bool, true, false, cond, List, [], ◌∷◌, ◌++◌, length, arith}
+use Rattle.std.specs.Prelude.{nat_eq, Some, slice_get}
 use Rattle.std.specs.List.{list_any}
 use Rattle.std.specs.Cmp.Lexicographic.{pointwise}
-use Rattle.std.proofs.lemmas.Bool.{cases_Bool, cases_eq}
+use Rattle.std.proofs.lemmas.Bool.{cases_Bool, false≢true}
 use Rattle.std.proofs.lemmas.Cmp.{nat_list_eq_equiv}
 use Rattle.std.proofs.lemmas.Option.{none-some, same_Some}
-use Rattle.self_terms.specs.Names.{text_of, with_text}
+use Rattle.self_terms.specs.Names.{HasEachOnce, text_of, with_text}
 use Rattle.source_model.specs.Names.{number_from, number_of}
 use Rattle.world_build.specs.Known.{IsNumber}
 use Rattle.world_build.proofs.NameLemmas.{number_stays}
@@ -64,10 +64,48 @@ texts_stay : (ts names : List (List ℕ)) (n : ℕ) (t : List ℕ) → text_of n
 texts_stay [] names n t is = is
 texts_stay (u ∷ ts) names n t is = texts_stay ts (with_text names u) n t (text_stays names u n t is)
 
+-- no text has two names
+not_there : (u : List ℕ) (xs : List (List ℕ)) (k : ℕ) → list_any (pointwise nat_eq u) xs ≡ false → slice_get xs k ≡ Some u → ⊥
+not_there u [] k e is = none-some u is
+not_there u (x ∷ xs) zero e is = let same = same_Some x u is in let first : pointwise nat_eq u x ≡ true = rw same (nat_list_eq_equiv.refl u) in absurd (false≢true (sym e ∙ rw first refl))
+not_there u (x ∷ xs) (suc k) e is = elim (cases_Bool (pointwise nat_eq u x)) [
+  | inl h ↦ absurd (false≢true (sym e ∙ rw h refl))
+  | inr h ↦ not_there u xs k (rw h at e) is
+]
+
+last_or : (xs : List (List ℕ)) (u t : List ℕ) (k : ℕ) → slice_get (xs ++ u ∷ []) k ≡ Some t → (slice_get xs k ≡ Some t) ⊎ ((k ≡ length xs) × (u ≡ t))
+last_or [] u t zero is = inr (refl, same_Some u t is)
+last_or [] u t (suc k) is = absurd (none-some t is)
+last_or (x ∷ xs) u t zero is = inl is
+last_or (x ∷ xs) u t (suc k) is = elim (last_or xs u t k is) [ inl a ↦ inl a | inr b ↦ inr (ap suc b.0, b.1) ]
+
+one_place : (xs : List (List ℕ)) (u t : List ℕ) (j k : ℕ) → list_any (pointwise nat_eq u) xs ≡ false → HasEachOnce xs
+    → (slice_get xs j ≡ Some t) ⊎ ((j ≡ length xs) × (u ≡ t)) → (slice_get xs k ≡ Some t) ⊎ ((k ≡ length xs) × (u ≡ t)) → suc j ≡ suc k
+one_place xs u t j k e once (inl a) (inl b) = once (suc j) (suc k) t a b
+one_place xs u t j k e once (inl a) (inr b) = absurd (not_there u xs j e (a ∙ ap Some (sym b.1)))
+one_place xs u t j k e once (inr a) (inl b) = absurd (not_there u xs k e (b ∙ ap Some (sym a.1)))
+one_place xs u t j k e once (inr a) (inr b) = let p = a.0 in let q = b.0 in omega arith
+
+once_more : (xs : List (List ℕ)) (u : List ℕ) → list_any (pointwise nat_eq u) xs ≡ false → HasEachOnce xs → HasEachOnce (xs ++ u ∷ [])
+once_more xs u e once zero n t a b = absurd (none-some t a)
+once_more xs u e once (suc j) zero t a b = absurd (none-some t b)
+once_more xs u e once (suc j) (suc k) t a b = one_place xs u t j k e once (last_or xs u t j a) (last_or xs u t k b)
+
+once_stays : (names : List (List ℕ)) (u : List ℕ) → HasEachOnce names → HasEachOnce (with_text names u)
+once_stays names u once = elim (cases_Bool (list_any (pointwise nat_eq u) names)) [
+  | inl e ↦ subst (λ (b : Bool). HasEachOnce (cond b names (names ++ u ∷ []))) (sym e) once
+  | inr e ↦ subst (λ (b : Bool). HasEachOnce (cond b names (names ++ u ∷ []))) (sym e) (once_more names u e once)
+]
+
+each_once : (ts names : List (List ℕ)) → HasEachOnce names → HasEachOnce (with_texts names ts)
+each_once [] names once = once
+each_once (u ∷ ts) names once = each_once ts (with_text names u) (once_stays names u once)
+
 pub names_world : (w : World) → NamesWorld w
 unfolding session_names
 names_world w = record {
   texts = λ n text is. texts_stay session_texts w.names n text is;
   numbers = λ text ne. sym (numbers_stay session_texts w.names text (number_of w.names text) (record { number = refl; given = let other : number_of w.names text ≢ 0 = ne in omega arith })).number;
   own = λ k text is. let pos = own_number session_texts w.names k text is in λ e. omega arith;
+  once = each_once session_texts w.names;
 }

@@ -1,11 +1,9 @@
 -- What a session over a world knows where it begins.
-use Rattle.std.specs.Prelude.{◌≡◌, ◌≢◌, ℕ, ◌<◌, ◌≤◌, Some, List, [], ◌∷◌, ◌++◌, length, slice_get}
-use Rattle.self_terms.specs.declared.bodies.Body.{Body}
-use Rattle.self_terms.specs.Names.{text_of}
+use Rattle.std.specs.Prelude.{◌≡◌, ◌≢◌, ℕ, ◌<◌, ◌≤◌, Some, List, [], length, slice_get}
+use Rattle.self_terms.specs.Names.{HasEachOnce, text_of}
 use Rattle.object_maps.specs.Slots.{Slots, slots_in}
 use Rattle.source_model.specs.Names.{number_of}
 use Rattle.source_model.specs.Soundness.{body_in, HasBody}
-use Rattle.source_model.specs.State.{State}
 use Rattle.sparc_store.specs.Words.{Words}
 use Rattle.heap_cells.specs.Shapes.{Block}
 use Rattle.heap_cells.specs.Heaps.{IsTold}
@@ -19,11 +17,12 @@ use Rattle.world_state.specs.Begun.{begun}
 use Rattle.world_begins.specs.Fresh.{BeginsCore, IsFresh}
 use Rattle.world_blocks.specs.Sessions.{session_texts, session_names, session_image, session_maps, contexts_map, blocks_map}
 
--- A name of the world is the session's, each text of the session's own has a name, and no text has two if none has two in the world.
+-- The names of the world are the session's, each text of the session's own has a name, and no text has two if none has two in the world.
 pub record NamesWorld (w : World) : Type 0 where
   pub texts : (n : ℕ) (text : List ℕ) → text_of w.names n ≡ Some text → text_of (session_names w) n ≡ Some text
   pub numbers : (text : List ℕ) → number_of w.names text ≢ 0 → number_of (session_names w) text ≡ number_of w.names text
   pub own : (k : ℕ) (text : List ℕ) → slice_get session_texts k ≡ Some text → number_of (session_names w) text ≢ 0
+  pub once : HasEachOnce w.names → HasEachOnce (session_names w)
 
 abbrev pub SessionsHaveNames : Type 0
 SessionsHaveNames = (w : World) → NamesWorld w

@@ -1,6 +1,6 @@
-use Rattle.std.proofs.Common.{◌≡◌, ◌+◌, ◌-◌, ◌∙◌, ap, arith, refl}
-use Rattle.std.specs.Prelude.{ℕ, List, ◌++◌, ◌∷◌, [], slice_get}
-use Rattle.world_blocks.proofs.Adding.{AreAdded, one_added}
+use Rattle.std.proofs.Common.{◌≡◌, ◌+◌, ◌-◌, ◌∙◌, ap, arith}
+use Rattle.std.specs.Prelude.{slice_get}
+use Rattle.world_blocks.proofs.Adding.{one_added}
 use Rattle.world_blocks.proofs.mapping.add_block_maps.Goals as goal
 
 pub loop-k-preserved : goal.loop-k-preserved

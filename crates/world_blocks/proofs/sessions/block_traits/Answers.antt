@@ -3,7 +3,6 @@ use Rattle.std.specs.Prelude.{ℕ}
 use Rattle.source_model.specs.declared.objects.Core.{Core}
 use Rattle.world_build.specs.Worlds.{World}
 use Rattle.world_heap.specs.Heaps.{places}
-use Rattle.world_blocks.specs.Sessions.{block_traits}
 use Rattle.world_blocks.proofs.Known.{traits_within, traits_are}
 use Rattle.world_blocks.proofs.sessions.block_traits.Goals as goal
 
