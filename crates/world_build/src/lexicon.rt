@@ -38,7 +38,7 @@ impl Model for Lexicon {
 }
 
 // The number of a text, which has a name from now on.
-fn number(names: &mut Names, text: &[u8]) -> Result<u32, AllocError>
+pub(crate) fn number(names: &mut Names, text: &[u8]) -> Result<u32, AllocError>
     requires { length names.old < 500000000 }
     ensures number { IfOk result (λ n. IsNumber names.new text.now n) }
     ensures grows { OnOk result (names.new ≡ with_text names.old text.now) }

@@ -1,7 +1,9 @@
 // Worlds.
-ghost use Rattle.std.specs.Prelude.{◌≡◌, ◌≢◌, ◌++◌, ◌∷◌, ◌+◌, ◌-◌, ◌<◌, ◌≤◌, [], length, map, option_map, slice_get, IfOk, IfErr, OnOk, Ok, Err, Some};
+ghost use Rattle.std.specs.Prelude.{◌≡◌, ◌≢◌, ◌++◌, ◌∷◌, ◌+◌, ◌-◌, ◌<◌, ◌≤◌, [], length, map, option_map, slice_get, IfOk, IfErr, OnOk, OnErr, Ok, Err, Some};
 ghost use Rattle.self_terms.specs.declared.bodies.Body.{Body};
+ghost use Rattle.self_terms.specs.Names.{with_text};
 ghost use Rattle.source_model.specs.declared.objects.Thing.TheVariants.{Text};
+ghost use Rattle.source_model.specs.Names.{number_of};
 ghost use Rattle.world_build.specs.declared.refusals.BuildRefusal.TheVariants.{OutOfMemory};
 ghost use Rattle.world_build.specs.Names.{core_names};
 ghost use Rattle.world_build.specs.Worlds.{fixed_strings, plain_number, core_in, core_object, cores, world_of, built, method_in, lobby_method};
@@ -10,6 +12,7 @@ ghost use Rattle.world_build.specs.Steps.{HasRoom};
 use crate::cores::{CORE_NAMES, CoreName};
 use crate::items::load_items;
 use crate::kinds::kinds_of;
+use crate::lexicon::number;
 use crate::loading::Loading;
 use crate::refusals::BuildRefusal;
 use crate::slots::ToldContent;
@@ -79,6 +82,18 @@ impl World {
         ensures { result.now ≡ self.now.names }
     {
         &self.names
+    }
+
+    /// The name of a text, which has one from now on; after want of memory the world is as it was.
+    pub fn name(&mut self, text: &[u8]) -> Result<Name, AllocError>
+        requires { length self.old.names < 500000000 }
+        ensures number { IfOk result (λ name. name.0 ≡ number_of self.new.names text.now) }
+        ensures given { IfOk result (λ name. 0 < name.0) }
+        ensures grows { OnOk result (self.new ≡ record self.old { names = with_text self.old.names text.now }) }
+        ensures same { OnErr result (self.new ≡ self.old) }
+    {
+        let number = number(&mut self.names, text)?;
+        Ok(Name(number))
     }
 
     /// How many numbers of objects the text has: those of the lobby, of object literals and of string literals.

@@ -1,0 +1,4 @@
+pub mod Named
+pub mod Mapped
+pub mod Known
+pub mod Adding
