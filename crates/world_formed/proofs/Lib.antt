@@ -1,3 +1,4 @@
 pub mod Orders
 pub mod Wording
 pub mod Said
+pub mod Spells

@@ -30,11 +30,11 @@ given_more : (names : List (List ℕ)) (ps : List ℕ) (q : ℕ) → AllGiven na
 given_more names [] q h k = (k, tt)
 given_more names (p ∷ ps) q h k = (h.0, given_more names ps q h.1 k)
 
-lettered_more : (t u : List ℕ) → begins_lettered t ≡ true → begins_lettered (t ++ u) ≡ true
+pub lettered_more : (t u : List ℕ) → begins_lettered t ≡ true → begins_lettered (t ++ u) ≡ true
 lettered_more [] u e = cc
 lettered_more (c ∷ t) u e = e
 
-colons_append : (t u : List ℕ) → colons (t ++ u) ≡ colons t + colons u
+pub colons_append : (t u : List ℕ) → colons (t ++ u) ≡ colons t + colons u
 colons_append t u = sum_by-append (λ x. if x == 58 then 1 else 0) t u
 
 -- keyword parts
