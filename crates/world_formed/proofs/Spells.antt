@@ -60,6 +60,9 @@ take_none p x xs e = rw e refl
 colons_first : (x : ℕ) (xs : List ℕ) → colons (x ∷ xs) ≡ (if x == 58 then 1 else 0) + colons xs
 colons_first x xs = sum_by-cons (λ y. if y == 58 then 1 else 0) x xs
 
+colons_other : (x : ℕ) (xs : List ℕ) → (x == 58) ≡ false → colons (x ∷ xs) ≡ colons xs
+colons_other x xs e = colons_first x xs ∙ rw e (omega arith)
+
 eq_of : (a b : ℕ) → (a == b) ≡ true → a ≡ b
 eq_of a b h = grind (arith, common_steps)
 
@@ -75,9 +78,7 @@ word_colons [] = refl
 word_colons (x ∷ xs) = elim (cases_Bool (is_word_byte x)) [
   | inl e ↦
       let rest : colons (take (prefix_len is_word_byte xs) xs) ≡ 0 = word_colons xs in
-      let first : colons (x ∷ take (prefix_len is_word_byte xs) xs) ≡ (if x == 58 then 1 else 0) + colons (take (prefix_len is_word_byte xs) xs) = colons_first x (take (prefix_len is_word_byte xs) xs) in
-      let weight : (if x == 58 then 1 else 0) ≡ 0 = rw (no_colon x e) refl in
-      ap colons (take_first is_word_byte x xs e) ∙ (omega arith)
+      ap colons (take_first is_word_byte x xs e) ∙ colons_other x (take (prefix_len is_word_byte xs) xs) (no_colon x e) ∙ rest
   | inr e ↦ ap colons (take_none is_word_byte x xs e)
 ]
 
