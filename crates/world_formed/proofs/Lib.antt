@@ -1,4 +1,3 @@
-pub mod Orders
-pub mod Wording
 pub mod Said
 pub mod Spells
+pub mod Fits

@@ -39,8 +39,8 @@ use Rattle.self_grammar.proofs.SlotMoves as v'
 use Rattle.self_grammar.proofs.Balance.{front_empty, back_empty, none_first, unplaced}
 use Rattle.source_model.specs.Formed.{arity, HasText}
 use Rattle.world_build.specs.Names.{joined}
-use Rattle.world_formed.proofs.Orders.{colons, begins_lettered, Spelt, IsPlain, IsKeyword, IsPart, IsOperator, OfSymbol, AllGiven, IsWhole, IsNamed, Calls, TargetFits, NodeFits, NodeStands, Frame, frame, added, argued, slotted, outer, IsSome, IsInner, IsOne, ClosesObject, given_by, IsNew, Sets, SlotFits, Keeps, keeps_any, closed_as_body}
-use Rattle.world_formed.proofs.Wording.{Keywords, keyword_one, keyword_further, keywords_named, keywords_arity, keywords_call, plain_named, plain_arity, plain_calls, operator_named, operator_arity, operator_calls}
+use Rattle.world_build.proofs.Orders.{colons, begins_lettered, Spelt, IsPlain, IsKeyword, IsPart, IsOperator, OfSymbol, AllGiven, IsWhole, IsNamed, Calls, TargetFits, NodeFits, NodeStands, Frame, frame, added, argued, slotted, outer, IsSome, IsInner, IsOne, ClosesObject, given_by, IsNew, Sets, SlotFits, Keeps, keeps_any, closed_as_body}
+use Rattle.world_build.proofs.Wording.{Keywords, keyword_one, keyword_further, keywords_named, keywords_arity, keywords_call, plain_named, plain_arity, plain_calls, operator_named, operator_arity, operator_calls}
 
 -- What holds of the names of the signs of marks that are sound.
 abbrev pub AreFine : List (List ℕ) → List Mark → Type 0

@@ -27,8 +27,9 @@ use Rattle.self_signs.specs.Signs.{signs, sign_of, symbol_at, number_of, names_a
 use Rattle.source_model.specs.Names.{number_from}
 use Rattle.source_model.specs.Names as source
 use Rattle.source_model.specs.Formed.{is_letter, arity, HasText}
-use Rattle.world_formed.proofs.Orders.{colons, begins_lettered, Spelt, IsPlain, IsKeyword, IsPart, IsOperator, OfSymbol}
-use Rattle.world_formed.proofs.Wording.{colons_append, lettered_more}
+use Rattle.world_build.proofs.Orders.{colons, begins_lettered, Spelt, IsPlain, IsKeyword, IsPart, IsOperator, OfSymbol}
+use Rattle.world_build.proofs.Wording.{colons_append, lettered_more}
+use Rattle.world_build.proofs.Given.{IsIn, in_with, own_in, Found, found, spelt}
 use Rattle.world_formed.proofs.Said.{OfSigns}
 
 -- The forms of tokens.
@@ -235,38 +236,6 @@ all_tokens bytes = from_tokens bytes 0 false 0 bytes refl
 
 -- Texts that have names.
 
-abbrev pub IsIn : List (List ℕ) → List ℕ → Type 0
-IsIn names t = list_any (pointwise nat_eq t) names ≡ true
-
-or_true : (a b : Bool) → a ≡ true → (a || b) ≡ true
-or_true true b e = refl
-or_true false b e = cc
-
-or_last : (a b : Bool) → b ≡ true → (a || b) ≡ true
-or_last true b e = refl
-or_last false b e = e
-
-pub in_more : (names more : List (List ℕ)) (t : List ℕ) → IsIn names t → IsIn (names ++ more) t
-in_more names more t h = list_any-append (pointwise nat_eq t) names more ∙ or_true _ _ h
-
-in_with : (names : List (List ℕ)) (u t : List ℕ) → IsIn names t → IsIn (with_text names u) t
-in_with names u t h = by (list_any (pointwise nat_eq u) names)
-  where
-    by : (b : Bool) → IsIn (if b then names else names ++ u ∷ []) t
-    by true = h
-    by false = in_more names (u ∷ []) t h
-
-pub own_in : (names : List (List ℕ)) (t : List ℕ) → IsIn (with_text names t) t
-own_in names t = by (list_any (pointwise nat_eq t) names) refl
-  where
-    none : (b : Bool) → b ≡ true → (b || false) ≡ true
-    none true e = refl
-    none false e = e
-
-    by : (b : Bool) → list_any (pointwise nat_eq t) names ≡ b → IsIn (if b then names else names ++ t ∷ []) t
-    by true e = e
-    by false e = list_any-append (pointwise nat_eq t) names (t ∷ []) ∙ or_last _ _ (none _ (nat_list_eq_equiv.refl t))
-
 in_texts : (us : List (List ℕ)) (names : List (List ℕ)) (t : List ℕ) → IsIn names t → IsIn (fold with_text names us) t
 in_texts [] names t h = h
 in_texts (u ∷ us) names t h = in_texts us (with_text names u) t (in_with names u t h)
@@ -295,31 +264,6 @@ all_needed : (bytes : List ℕ) (ts : List Token) (names : List (List ℕ)) → 
 all_needed bytes [] names = tt
 all_needed bytes (t ∷ ts) names =
     (all_after bytes ts (fold with_text names (needed bytes t)) (needed bytes t) (all_texts (needed bytes t) names), all_needed bytes ts (fold with_text names (needed bytes t)))
-
--- The number of a text that is there.
-
-record Found (k : ℕ) (t : List ℕ) (names : List (List ℕ)) : Type 0 where
-  number : number_from k t names ≡ k + position_or_len (pointwise nat_eq t) names
-  there : slice_get names (position_or_len (pointwise nat_eq t) names) ≡ Some t
-
-found : (k : ℕ) (t : List ℕ) (names : List (List ℕ)) → IsIn names t → Found k t names
-found k t [] h = cc
-found k t (x ∷ names) h = elim (cases_Bool (pointwise nat_eq t x)) [
-  | inl e ↦ record { number = rw e (omega arith); there = rw e (ap Some (sym (same_text t x (sym e)))) }
-  | inr e ↦
-      let r = found (k + 1) t names (rw e at h) in
-      let up : 1 + position_or_len (pointwise nat_eq t) names ≡ suc (position_or_len (pointwise nat_eq t) names) = omega arith in
-      record {
-        number = (let n : number_from (k + 1) t names ≡ k + 1 + position_or_len (pointwise nat_eq t) names = r.number in rw e (omega arith));
-        there = rw e (ap (λ i. slice_get (x ∷ names) i) up ∙ r.there);
-      }
-]
-
-pub spelt : (names : List (List ℕ)) (t : List ℕ) → IsIn names t → Spelt names (source.number_of names t) t
-spelt names t h =
-    let r = found 1 t names h in
-    let up : 1 + position_or_len (pointwise nat_eq t) names ≡ suc (position_or_len (pointwise nat_eq t) names) = omega arith in
-    record { number = refl; given = ap (λ n. text_at names n) (r.number ∙ up) ∙ r.there }
 
 same_number : (names : List (List ℕ)) (t : List ℕ) → IsIn names t → source.number_of names t ≡ number_of names t
 same_number names t h = (found 1 t names h).number
