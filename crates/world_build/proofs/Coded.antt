@@ -53,7 +53,7 @@ get_kept [] ys i x e = cc
 get_kept (z ∷ xs) ys zero x e = e
 get_kept (z ∷ xs) ys (suc i) x e = get_kept xs ys i x e
 
-text_kept : (old new : List (List ℕ)) (n : ℕ) (t : List ℕ) → Extends old new → text_of old n ≡ Some t → text_of new n ≡ Some t
+pub text_kept : (old new : List (List ℕ)) (n : ℕ) (t : List ℕ) → Extends old new → text_of old n ≡ Some t → text_of new n ≡ Some t
 text_kept old new zero t h e = cc
 text_kept old new (suc n) t h e = ap (λ names. slice_get names n) h.is ∙ get_kept old h.more n t e
 
@@ -93,7 +93,7 @@ byte_same n le = by (nat_le n 255) refl
 
 -- Bodies by their numbers.
 
-body_found : (bodies : List Body) (b : ℕ) (x : Body) → slice_get bodies (b - 1) ≡ Some x → source.body_in bodies b ≡ x
+pub body_found : (bodies : List Body) (b : ℕ) (x : Body) → slice_get bodies (b - 1) ≡ Some x → source.body_in bodies b ≡ x
 body_found bodies b x e = ap (λ o. unwrap_or o (record { name = None; outer = None; arguments = []; locals = []; nodes = []; places = [] })) e
 
 around_none : (bodies : List Body) (up : ℕ) → around bodies up None ≡ None

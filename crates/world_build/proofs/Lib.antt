@@ -38,3 +38,4 @@ pub mod Grown
 pub mod Given
 pub mod Coded
 pub mod Ordered
+pub mod Slotted
