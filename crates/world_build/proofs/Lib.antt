@@ -32,3 +32,10 @@ pub mod Contents
 pub mod Shapes
 pub mod Sure
 pub mod Right
+pub mod Orders
+pub mod Wording
+pub mod Grown
+pub mod Given
+pub mod Coded
+pub mod Ordered
+pub mod Slotted

@@ -1,0 +1,2 @@
+-- Worlds with which a session begins.
+pub mod Begins
