@@ -51,7 +51,7 @@ returns_to at pc left h = record h { machine = taken_up_with at pc left h.machin
 abbrev pub answers_from_home : Host → Host
 answers_from_home h = answered (record h { steps = h.steps + 1 })
 
--- so once the windows were flushed
+-- what the service does once the windows were flushed
 abbrev pub unwound : ℕ → ℕ → Host → Host
 unwound goal cost w =
     let ended = ended_older w + 1 in
