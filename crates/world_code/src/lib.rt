@@ -7,4 +7,4 @@
 
 mod laws;
 
-pub use laws::accepted_bodies_run;
+pub use laws::{accepted_bodies_have_few_arguments, accepted_bodies_run};
