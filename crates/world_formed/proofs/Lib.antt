@@ -1,3 +1,4 @@
 pub mod Said
 pub mod Spells
 pub mod Fits
+pub mod Begins
