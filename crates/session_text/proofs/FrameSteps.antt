@@ -5,6 +5,7 @@ use Rattle.std.specs.Prelude.{slice_get, Some, None, zip, map, flat_map, ◌==�
 use Rattle.std.specs.List.{join_with_byte}
 use Rattle.self_terms.specs.declared.nodes.Place.{Place}
 use Rattle.source_model.specs.declared.objects.Core.{Core}
+use Rattle.source_model.specs.Names.{text_named}
 use Rattle.session_text.specs.declared.lines.ShownValue.{ShownValue}
 use Rattle.session_text.specs.Values.{shown_text}
 use Rattle.session_text.specs.Frames.{local_text, locals_text, values_text, pending_text}
@@ -119,3 +120,44 @@ fit_pending core names xs vs ws ps qs self before head end most e f g h le =
 pub some_values : (n : ℕ) → (n == 0) ≡ false → 0 < n
 some_values zero e = absurd (cc)
 some_values (suc n) e = omega arith
+
+-- How long they are.
+
+abbrev names_text : List (List ℕ) → List ℕ → List ℕ
+names_text names xs = flat_map (text_named names) xs
+
+abbrev behind_spaces : Core → List ShownValue → List ℕ
+behind_spaces core vs = flat_map (λ w. codes " " ++ shown_text core w) vs
+
+local_long : (core : Core) (names : List (List ℕ)) (x : ℕ) (v : ShownValue) → length (local_text core names (x, v)) ≡ 2 + length (text_named names x) + length (shown_text core v)
+local_long core names x v =
+    let a = length-append (codes " " ++ text_named names x ++ codes "=") (shown_text core v) in
+    let b = length-append (codes " " ++ text_named names x) (codes "=") in
+    let d = length-append (codes " ") (text_named names x) in
+    omega (arith, a, b, d)
+
+pub locals_long : (core : Core) (names : List (List ℕ)) (xs : List ℕ) (vs : List ShownValue) → length (locals_text core names xs vs) ≤ length (names_text names xs) + length (behind_spaces core vs) + length vs
+locals_long core names [] vs = omega arith
+locals_long core names (x ∷ xs) [] = omega arith
+locals_long core names (x ∷ xs) (v ∷ vs) =
+    let rest = locals_long core names xs vs in
+    let one = local_long core names x v in
+    let a = length-append (local_text core names (x, v)) (locals_text core names xs vs) in
+    let b = length-append (text_named names x) (names_text names xs) in
+    let d = length-append (codes " " ++ shown_text core v) (behind_spaces core vs) in
+    let e = length-append (codes " ") (shown_text core v) in
+    omega (arith, rest, one, a, b, d, e)
+
+values_long : (core : Core) (vs : List ShownValue) → length (values_text core vs) ≤ length (behind_spaces core vs)
+values_long core [] = omega arith
+values_long core (v ∷ vs) =
+    let a = ap length (spaced core v vs) ∙ length-append (shown_text core v) (behind_spaces core vs) in
+    let d = length-append (codes " " ++ shown_text core v) (behind_spaces core vs) in
+    let e = length-append (codes " ") (shown_text core v) in
+    omega (arith, a, d, e)
+
+pub pending_long : (core : Core) (vs : List ShownValue) (most : ℕ) → length (behind_spaces core vs) ≤ most → length (pending_text core vs) ≤ 3 + most
+pending_long core vs most le =
+    let a = length-append (codes " [" ++ values_text core vs) (codes "]") in
+    let b = length-append (codes " [") (values_text core vs) in
+    omega (arith, a, b, values_long core vs)

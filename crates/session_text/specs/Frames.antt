@@ -49,6 +49,16 @@ ActHasRoom core names bodies position None = ⊥
 ActHasRoom core names bodies position (Some act) =
     (0 < act.body.0) × (act.body.0 ≤ length bodies) × (length (frame_text core names (body_in bodies act.body.0) position act) ≤ 4000000)
 
+-- the name of a body's slot is short enough, and so are those of its arguments and locals together
+pub record HasShortNames (names : List (List ℕ)) (b : Body) : Type 0 where
+  pub slot : length (selector_text names b.name) ≤ 1950000
+  pub locals : length (flat_map (text_named names) (local_names b)) ≤ 1950000
+
+-- an activation is there, its body is known, and its names are short enough
+abbrev pub ActHasNames : List (List ℕ) → List Body → Option ShownAct → Type 0
+ActHasNames names bodies None = ⊥
+ActHasNames names bodies (Some act) = (0 < act.body.0) × (act.body.0 ≤ length bodies) × HasShortNames names (body_in bodies act.body.0)
+
 -- An activation of the source among all of its activity, as it is shown.
 abbrev pub act_of : List Activation → Activation → ShownAct
 act_of all a = record {

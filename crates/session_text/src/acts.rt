@@ -19,7 +19,7 @@ pub struct ValueList {
 }
 
 impl Model for ValueList {
-    ghost use Rattle.std.specs.Prelude.{List, ◌≤◌};
+    ghost use Rattle.std.specs.Prelude.{List, ◌≤◌, vec_len};
     ghost use Rattle.std.specs.Vec.{vec_capacity};
     ghost use Rattle.session_text.specs.declared.lines.ShownValue.{ShownValue};
 
@@ -27,7 +27,7 @@ impl Model for ValueList {
 
     ghost view = { λ l. l.values.items };
 
-    ghost invariant = { λ l. 79 ≤ vec_capacity l.values };
+    ghost invariant = { λ l. (79 ≤ vec_capacity l.values) × (vec_len l.values ≤ 79) };
 }
 
 impl ValueList {
@@ -68,7 +68,8 @@ impl ValueList {
 
     /// The values in their order.
     pub fn as_slice(&self) -> &[ShownValue]
-        ensures { result.now ≡ self.now }
+        ensures values { result.now ≡ self.now }
+        ensures few { length result.now ≤ 79 }
     {
         self.values.as_slice()
     }

@@ -586,7 +586,7 @@ fn local_name(body: &Body, k: usize) -> Option<u32>
 }
 
 // The place of a node of a body.
-fn place_at(body: &Body, node: u32) -> Place
+pub(crate) fn place_at(body: &Body, node: u32) -> Place
     ensures { result ≡ place_at body.now node }
 {
     match body.places.get(node as usize) {

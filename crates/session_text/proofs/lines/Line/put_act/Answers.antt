@@ -8,10 +8,10 @@ pub put_locals-requires : goal.put_locals-requires
 put_locals-requires c =
     fit_locals c.args.core c.args.names.now (local_names c.args.body.now) c.as_slice.result.now c.args.act.now.locals c.put_head.new.self
     (head_text c.args.core c.args.names.now c.args.body.now c.args.position c.args.act.now) (pending_text c.args.core c.args.act.now.pending) (codes "\n") 4000000
-    c.put_head.ensures c.as_slice.ensures c.requires.within
+    c.put_head.ensures c.as_slice.ensures.values c.requires.within
 
 pub put_pending-requires : goal.put_pending-requires
 put_pending-requires c =
     fit_pending c.args.core c.args.names.now (local_names c.args.body.now) c.as_slice.result.now c.args.act.now.locals c.as_slice-2.result.now c.args.act.now.pending
     c.put_locals.new.self c.put_head.new.self (head_text c.args.core c.args.names.now c.args.body.now c.args.position c.args.act.now) (codes "\n") 4000000
-    c.put_head.ensures c.as_slice.ensures c.as_slice-2.ensures c.put_locals.ensures.text c.requires.within
+    c.put_head.ensures c.as_slice.ensures.values c.as_slice-2.ensures.values c.put_locals.ensures.text c.requires.within
