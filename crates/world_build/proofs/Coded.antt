@@ -1,5 +1,5 @@
 -- The bodies of the world of items that are right: what their nodes name is there, and each message has as many arguments as its name says.
-use Rattle.std.specs.Prelude.{◌≡◌, ◌⊎◌, ℕ, zero, suc, ◌+◌, ◌-◌, ◌<◌, ◌≤◌, nat_le, Bool, true, false, ◌&&◌, not, if◌then◌else◌, Option, None, Some, Result, Ok, Err, List, [], ◌∷◌, ◌++◌, length, map, slice_get, slice_set, unwrap_or, option_and_then, refl}
+use Rattle.std.specs.Prelude.{◌≡◌, ℕ, zero, suc, ◌+◌, ◌-◌, ◌<◌, ◌≤◌, nat_le, Bool, true, false, ◌&&◌, not, if◌then◌else◌, Option, None, Some, Ok, List, [], ◌∷◌, ◌++◌, length, map, slice_get, slice_set, unwrap_or, refl}
 use Rattle.std.proofs.Common.{ap, sym, subst, ◌∙◌, inl, inr, arith, length-append}
 use Rattle.std.proofs.lemmas.Grind.{common_steps}
 use Rattle.std.proofs.lemmas.List.{length-map}
@@ -36,15 +36,15 @@ use Rattle.world_build.specs.declared.values.Held.{Held}
 use Rattle.world_build.specs.declared.values.Held.TheVariants.{Nothing as nothing, Data as value, Code as body}
 use Rattle.world_build.specs.declared.slots.ToldSlot.{ToldSlot}
 use Rattle.world_build.specs.declared.loading.Loading.{Loading}
-use Rattle.world_build.specs.Names.{joined, with_words, word_number, with_world_texts}
+use Rattle.world_build.specs.Names.{joined, with_words, word_number}
 use Rattle.world_build.specs.Loading.{begun, place, root, further, followed, holding, is_object, innermost, body_in, opened, with_body, closed, with_closed, with_string, at_object, slots_for, add_slots, local_for, placed_in, name_body, with_slot, may_be_parent, is_parent, argument_in, with_argument, with_waiting}
 use Rattle.world_build.specs.Nodes.{or_outer, found, byte, selector, reading, storing, implied, message, node_of, beside, at_innermost, with_node, take_item}
 use Rattle.world_build.specs.Nodes
 use Rattle.world_build.proofs.Weights.{ok_same, ok_bound}
-use Rattle.world_build.proofs.Standing.{in_append, get_append, get_last, in_set, get_set}
-use Rattle.world_build.proofs.Orders.{AllGiven, Calls, TargetFits, NodeStands, OpensBody, Frame, frame, argued, slotted, outer, IsSome, IsInner, IsOne, given_by, Keeps}
-use Rattle.world_build.proofs.Given.{IsIn, own_in, spelt}
-use Rattle.world_build.proofs.Grown.{Extends, extends_then, extends_same, extends_world, Grown, Becomes, Grow, Later, later_then, step_later, loaded_later, ended_is}
+use Rattle.world_build.proofs.Standing.{in_append, get_last, in_set, get_set}
+use Rattle.world_build.proofs.Orders.{AllGiven, TargetFits, NodeStands, OpensBody, Frame, frame, argued, slotted, outer, given_by, Keeps}
+use Rattle.world_build.proofs.Given.{own_in, spelt}
+use Rattle.world_build.proofs.Grown.{Extends, extends_then, extends_words, extends_world, Grow, Later, later_then, step_later, loaded_later, ended_is}
 
 -- Names.
 
@@ -180,7 +180,7 @@ entry_local p bodies b k e = by (slice_get bodies (b - 1)) refl e
         subst (λ z. k < room z) (sym (body_found bodies b x f)) (omega arith)
 
 -- a local that was found, so many bodies out
-record Local' (bodies : List Body) (os : List Open) (up : ℕ) (q : ℕ × ℕ) : Type 0 where
+record FoundLocal (bodies : List Body) (os : List Open) (up : ℕ) (q : ℕ × ℕ) : Type 0 where
   out : ℕ
   up_is : q.0 ≡ up + out
   near : out < length os
@@ -189,12 +189,12 @@ record Local' (bodies : List Body) (os : List Open) (up : ℕ) (q : ℕ × ℕ) 
 pair_same : (x y : ℕ × ℕ) → ◌≡◌ {A = Option (ℕ × ℕ)} (Some x) (Some y) → x ≡ y
 pair_same x y e = cc
 
-found_local : (p : Entry → Bool) (up : ℕ) (bodies : List Body) (os : List Open) (q : ℕ × ℕ) → Opens bodies os → found p up bodies os ≡ Some q → Local' bodies os up q
+found_local : (p : Entry → Bool) (up : ℕ) (bodies : List Body) (os : List Open) (q : ℕ × ℕ) → Opens bodies os → found p up bodies os ≡ Some q → FoundLocal bodies os up q
 found_local p up bodies [] q h e = cc
 found_local p up bodies (in_object o ∷ os) q h e = cc
 found_local p up bodies (in_body b ∷ os) q h e = by (number_of p 0 (entries_of bodies b)) refl e (found_local p (up + 1) bodies os q h.1)
   where
-    by : (o : Option ℕ) → number_of p 0 (entries_of bodies b) ≡ o → or_outer o up (found p (up + 1) bodies os) ≡ Some q → (found p (up + 1) bodies os ≡ Some q → Local' bodies os (up + 1) q) → Local' bodies (in_body b ∷ os) up q
+    by : (o : Option ℕ) → number_of p 0 (entries_of bodies b) ≡ o → or_outer o up (found p (up + 1) bodies os) ≡ Some q → (found p (up + 1) bodies os ≡ Some q → FoundLocal bodies os (up + 1) q) → FoundLocal bodies (in_body b ∷ os) up q
     by None n f far =
         let r = far f in
         let more : q.0 ≡ up + 1 + r.out = r.up_is in
@@ -429,7 +429,7 @@ module _ (first names : List (List ℕ)) (bytes : List ℕ) (t : Loading) (end :
     node_fine text.Itself rest h f e block = (tt, tt)
     node_fine text.Nil rest h f e block = (tt, tt)
     node_fine (text.Message to w args) rest h f e block =
-        message_fine to w (word_number s.names w) args (target_kept to (extends_then first (with_words s.names w) names (extends_then first s.names (with_words s.names w) f (Rattle.world_build.proofs.Grown.extends_words s.names w)) e) h.0) h.1.few
+        message_fine to w (word_number s.names w) args (target_kept to (extends_then first (with_words s.names w) names (extends_then first s.names (with_words s.names w) f (extends_words s.names w)) e) h.0) h.1.few
         (word_takes first s.names names w args f e h.1.given h.1.arity)
     node_fine (text.Primitive w args receiver handler) rest h f e block = (tt, (joined s.names (parts_in w), word_text s.names names w e))
     node_fine text.Drop rest h f e block = (tt, tt)
@@ -465,8 +465,7 @@ module _ (first names : List (List ℕ)) (bytes : List ℕ) (t : Loading) (end :
       let y = l.bodies (length u.bodies) new (get_last u.bodies new) in
       let up : length u.bodies + 1 - 1 ≡ length u.bodies = omega arith in
       let at : slice_get t.bodies (length u.bodies + 1 - 1) ≡ Some y.now = ap (λ i. slice_get t.bodies i) up ∙ y.at in
-      let within : length u.bodies < length t.bodies = slice_get_within t.bodies (length u.bodies) y.now y.at in
-      (
+      let within : length u.bodies < length t.bodies = slice_get_within t.bodies (length u.bodies) y.now y.at in (
         (omega arith, omega arith),
         ap (λ (z : Body). z.outer) (body_found t.bodies (length u.bodies + 1) y.now at) ∙ y.grown.outer ∙ ap (λ os. body_in (innermost os)) is,
       )

@@ -1,8 +1,8 @@
 -- Texts that have names, and their numbers.
-use Rattle.std.specs.Prelude.{◌≡◌, ℕ, zero, suc, ◌+◌, nat_eq, Bool, true, false, not, ◌||◌, if◌then◌else◌, Option, None, Some, List, [], ◌∷◌, ◌++◌, slice_get, refl}
-use Rattle.std.specs.List.{list_any, prefix_len, position_or_len}
+use Rattle.std.specs.Prelude.{◌≡◌, ℕ, suc, ◌+◌, nat_eq, Bool, true, false, ◌||◌, if◌then◌else◌, Some, List, [], ◌∷◌, ◌++◌, slice_get, refl}
+use Rattle.std.specs.List.{list_any, position_or_len}
 use Rattle.std.specs.Cmp.Lexicographic.{pointwise, same_text}
-use Rattle.std.proofs.Common.{ap, sym, subst, ◌∙◌, inl, inr, arith}
+use Rattle.std.proofs.Common.{ap, sym, ◌∙◌, inl, inr, arith}
 use Rattle.std.proofs.lemmas.Bool.{cases_Bool}
 use Rattle.std.proofs.lemmas.Cmp.{nat_list_eq_equiv}
 use Rattle.std.proofs.lemmas.List.Folds.{list_any-append}
@@ -67,4 +67,3 @@ spelt names t h =
     let r = found 1 t names h in
     let up : 1 + position_or_len (pointwise nat_eq t) names ≡ suc (position_or_len (pointwise nat_eq t) names) = omega arith in
     record { number = refl; given = ap (λ n. text_at names n) (r.number ∙ up) ∙ r.there }
-

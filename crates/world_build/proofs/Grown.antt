@@ -1,5 +1,5 @@
 -- What stays as a text is read: names keep their numbers, and bodies only get nodes, arguments and locals.
-use Rattle.std.specs.Prelude.{◌≡◌, ◌⊎◌, ℕ, zero, suc, ◌+◌, ◌-◌, ◌<◌, ◌≤◌, nat_eq, Bool, true, false, ◌&&◌, not, if◌then◌else◌, Option, None, Some, Result, Ok, Err, List, [], ◌∷◌, ◌++◌, length, slice_get, slice_set, refl}
+use Rattle.std.specs.Prelude.{◌≡◌, ◌⊎◌, ℕ, zero, suc, ◌+◌, ◌-◌, ◌<◌, ◌≤◌, nat_eq, Bool, true, false, ◌&&◌, not, if◌then◌else◌, Option, None, Some, Ok, Err, List, [], ◌∷◌, ◌++◌, length, slice_get, slice_set, refl}
 use Rattle.std.specs.List.{list_any}
 use Rattle.std.specs.Cmp.Lexicographic.{pointwise}
 use Rattle.std.proofs.Common.{ap, sym, subst, ◌∙◌, inl, inr, arith, length-append, append_assoc}
@@ -28,12 +28,11 @@ use Rattle.world_build.specs.declared.values.Open.TheVariants.{InObject as in_ob
 use Rattle.world_build.specs.declared.values.Held.{Held}
 use Rattle.world_build.specs.declared.values.Held.TheVariants.{Nothing as nothing, Data as value, Code as body}
 use Rattle.world_build.specs.declared.slots.ToldSlot.{ToldSlot}
-use Rattle.world_build.specs.declared.refusals.BuildRefusal.{BuildRefusal}
 use Rattle.world_build.specs.declared.refusals.BuildRefusal.TheVariants.{ParentNotObject}
 use Rattle.world_build.specs.declared.loading.Loading.{Loading}
 use Rattle.world_build.specs.Names.{joined, with_words, word_number, with_core_texts, with_world_texts, lobby_text, core_names, core_text}
 use Rattle.world_build.specs.declared.cores.CoreName.{CoreName}
-use Rattle.world_build.specs.Loading.{begun, place, root, further, followed, holding, is_object, innermost, body_in, opened, with_body, closed, with_closed, with_string, at_object, slots_for, add_slots, local_for, placed_in, name_body, with_slot, may_be_parent, is_parent, slot_ended, argument_in, with_argument, with_waiting}
+use Rattle.world_build.specs.Loading.{place, root, further, followed, holding, is_object, innermost, opened, closed, with_closed, with_string, at_object, slots_for, add_slots, local_for, placed_in, name_body, with_slot, may_be_parent, is_parent, argument_in, with_argument, with_waiting}
 use Rattle.world_build.specs.Nodes.{node_of, beside, at_innermost, with_node, take_item}
 use Rattle.world_build.specs.Nodes
 use Rattle.world_build.proofs.Weights.{ok_same, ok_bound}

@@ -1,5 +1,5 @@
 -- The world of items that are right, from what was read last.
-use Rattle.std.specs.Prelude.{◌≡◌, ℕ, zero, suc, ◌+◌, ◌<◌, ◌≤◌, ◌==◌, nat_eq, Bool, true, false, ◌||◌, Option, None, Some, Result, Ok, Err, List, [], ◌∷◌, ◌++◌, length, map, take, slice_get, codes, unwrap_or, find, refl}
+use Rattle.std.specs.Prelude.{◌≡◌, ℕ, zero, suc, ◌+◌, ◌<◌, ◌≤◌, ◌==◌, nat_eq, Bool, true, false, ◌||◌, Option, None, Some, Result, Ok, Err, List, [], ◌∷◌, ◌++◌, length, map, take, slice_get, codes, unwrap_or, refl}
 use Rattle.std.specs.List.{list_any}
 use Rattle.std.proofs.Common.{ap, sym, subst, ◌∙◌, arith, length-append}
 use Rattle.std.proofs.lemmas.Grind.{common_steps}
@@ -9,17 +9,14 @@ use Rattle.self_terms.specs.declared.values.Datum.{Datum}
 use Rattle.self_terms.specs.declared.values.Datum.TheVariants.{Integer as integer, Object as object, Nil as nil}
 use Rattle.self_terms.specs.declared.bodies.Body.{Body}
 use Rattle.self_terms.specs.Words.{IsSmall}
-use Rattle.self_terms.specs.Names.{text_of}
 use Rattle.self_grammar.specs.declared.pieces.Item.{Item}
 use Rattle.source_model.specs.declared.objects.Slot.{Slot}
-use Rattle.source_model.specs.declared.objects.Content.{Content}
-use Rattle.source_model.specs.declared.objects.Content.TheVariants.{Constant, Assignable, Assignment, Parent, Method}
-use Rattle.source_model.specs.declared.objects.Thing.{Thing}
+use Rattle.source_model.specs.declared.objects.Content.TheVariants.{Assignment}
 use Rattle.source_model.specs.declared.objects.Thing.TheVariants.{Plain, Text}
 use Rattle.source_model.specs.declared.objects.Core.{Core}
 use Rattle.source_model.specs.Names.{text_named}
 use Rattle.source_model.specs.Objects.{is_assignable}
-use Rattle.source_model.specs.Slots.{has_name, slot_named, AreNamedOnce}
+use Rattle.source_model.specs.Slots.{slot_named, AreNamedOnce}
 use Rattle.source_model.specs.Messages.{value_of}
 use Rattle.source_model.specs.Canon.{Each}
 use Rattle.source_model.specs.Formed.{ContentFits, SlotFits, Follows, AreTied, ThingFits, ContentHolds, SlotHolds, ThingHolds, IsPlain}
@@ -47,7 +44,7 @@ use Rattle.world_build.proofs.Contents.{There, ContentThere, SlotsThere, ThingTh
 use Rattle.world_build.proofs.Orders.{frame, Keeps}
 use Rattle.world_build.proofs.Grown.{Extends}
 use Rattle.world_build.proofs.Coded.{AllOk, code_fits}
-use Rattle.world_build.proofs.Slotted.{ContentOk, SetsName, is_told_assignable, Follow, Tied, Once, SlotsOk, ThingOk, AllThings, slots_fit}
+use Rattle.world_build.proofs.Slotted.{ContentOk, SetsName, is_told_assignable, Follow, Tied, Once, ThingOk, AllThings, slots_fit}
 
 pub record Made (r : Result Loading BuildRefusal) (w : World) : Type 0 where
   pub loading : Loading

@@ -1,8 +1,7 @@
 -- What is so of the items of a text with nothing wrong, one after the other: what its names are, what a method slot holds, what a block literal opens.
-use Rattle.std.specs.Prelude.{◌≡◌, ℕ, zero, suc, ◌+◌, ◌<◌, ◌≤◌, ◌==◌, nat_eq, Bool, true, false, if◌then◌else◌, count_by, Option, None, Some, List, [], ◌∷◌, ◌++◌, length, unwrap_or, refl}
+use Rattle.std.specs.Prelude.{◌≡◌, ℕ, zero, suc, ◌+◌, ◌<◌, ◌≤◌, ◌==◌, nat_eq, Bool, true, false, count_by, Option, None, Some, List, [], ◌∷◌, ◌++◌, length, refl}
 use Rattle.std.specs.List.{list_any}
 use Rattle.std.proofs.Common.{ap, sym, ◌∙◌, arith}
-use Rattle.std.proofs.lemmas.Bool.{cases_Bool}
 use Rattle.self_terms.specs.Names.{text_of}
 use Rattle.self_grammar.specs.declared.signs.Symbol.{Symbol}
 use Rattle.self_grammar.specs.declared.signs.Symbol.TheVariants as symbol
@@ -17,7 +16,7 @@ use Rattle.self_grammar.specs.declared.pieces.SlotForm.TheVariants as form
 use Rattle.self_grammar.specs.declared.pieces.Item.{Item}
 use Rattle.self_grammar.specs.declared.pieces.Item.TheVariants as items
 use Rattle.self_grammar.specs.Parts.{parts_in}
-use Rattle.source_model.specs.Names.{number_of, text_named}
+use Rattle.source_model.specs.Names.{number_of}
 use Rattle.source_model.specs.Formed.{is_letter, arity, HasText}
 use Rattle.world_build.specs.Names.{joined}
 use Rattle.world_build.specs.Loading.{is_object}

@@ -1,6 +1,6 @@
 -- The slots of the objects that right items build: a method takes as many arguments as its slot's name says, an assignment slot stands
 -- behind the slot that it assigns, and no two slots of an object have one name.
-use Rattle.std.specs.Prelude.{◌≡◌, ◌≢◌, ◌⊎◌, ℕ, zero, suc, ◌+◌, ◌-◌, ◌<◌, ◌≤◌, nat_eq, Bool, true, false, ◌&&◌, ◌||◌, not, if◌then◌else◌, Option, None, Some, Result, Ok, Err, List, [], ◌∷◌, ◌++◌, length, take, slice_get, slice_set, refl}
+use Rattle.std.specs.Prelude.{◌≡◌, ◌⊎◌, ℕ, zero, suc, ◌+◌, ◌-◌, ◌<◌, ◌≤◌, nat_eq, Bool, true, false, ◌&&◌, ◌||◌, not, if◌then◌else◌, Option, None, Some, Ok, List, [], ◌∷◌, ◌++◌, length, take, slice_get, slice_set, refl}
 use Rattle.std.specs.List.{list_any}
 use Rattle.std.specs.Cmp.Lexicographic.{pointwise}
 use Rattle.std.proofs.lemmas.Bool.{cases_Bool}
@@ -8,13 +8,11 @@ use Rattle.std.proofs.lemmas.Cmp.{nat_list_eq_equiv}
 use Rattle.std.proofs.Common.{ap, sym, subst, ◌∙◌, inl, inr, arith, length-append}
 use Rattle.std.proofs.lemmas.Grind.{common_steps}
 use Rattle.std.proofs.lemmas.Option.{slice_get_within}
-use Rattle.std.proofs.lemmas.List.Folds.{list_any-append}
 use Rattle.self_terms.specs.declared.nodes.Node.{Node}
 use Rattle.self_terms.specs.declared.nodes.Place.{Place}
 use Rattle.self_terms.specs.declared.values.Datum.{Datum as Value}
 use Rattle.self_terms.specs.declared.values.Datum.TheVariants.{Integer as integer, Object as object, Nil as nil}
 use Rattle.self_terms.specs.declared.bodies.Body.{Body}
-use Rattle.self_terms.specs.declared.bodies.Local.{Local}
 use Rattle.self_terms.specs.Names.{text_of}
 use Rattle.self_terms.specs.Bodies.{change_body, changed, add_node, add_argument, add_local, with_name}
 use Rattle.self_tokens.specs.Texts.{unescaped}
@@ -46,16 +44,16 @@ use Rattle.world_build.specs.declared.loading.Loading.{Loading}
 use Rattle.world_build.specs.Names.{joined, with_words, word_number}
 use Rattle.world_build.specs.Slots.{is_named, add_slot}
 use Rattle.world_build.specs.Things.{change_thing}
-use Rattle.world_build.specs.Loading.{begun, place, root, further, followed, holding, is_object, innermost, body_in, opened, with_object, with_body, closed, with_closed, between, with_string, at_object, value_in, body_number, slots_for, add_slots, local_for, placed_in, name_body, with_slot, may_be_parent, is_parent, argument_in, with_argument, with_waiting}
+use Rattle.world_build.specs.Loading.{begun, place, root, further, followed, holding, is_object, innermost, body_in, opened, closed, with_closed, between, with_string, at_object, value_in, body_number, slots_for, add_slots, local_for, placed_in, name_body, with_slot, may_be_parent, is_parent, argument_in, with_argument, with_waiting}
 use Rattle.world_build.specs.Nodes.{node_of, beside, at_innermost, with_node, take_item}
 use Rattle.world_build.specs.Nodes
 use Rattle.world_build.proofs.Weights.{ok_same, ok_bound, same_innermost}
 use Rattle.world_build.proofs.Standing.{in_append, get_append, get_last, in_set, get_set, get_unset}
-use Rattle.world_build.proofs.Orders.{colons, begins_lettered, arity_lettered, Spelt, IsPlain, IsNamed, IsWhole, Sets, SlotFits, IsNew, AllGiven, Frame, frame, added, argued, slotted, outer, IsSome, IsInner, given_by, Keeps, bare}
+use Rattle.world_build.proofs.Orders.{colons, arity_lettered, Spelt, IsNamed, Sets, SlotFits, AllGiven, Frame, frame, added, argued, slotted, outer, IsInner, given_by, Keeps, bare}
 use Rattle.world_build.proofs.Given.{IsIn}
 use Rattle.world_build.proofs.Wording.{colons_append, lettered_more, joined_one}
-use Rattle.world_build.proofs.Grown.{Extends, extends_then, extends_same, extends_world, extends_words, IsOpen, Grown, Becomes, Grow, Later, later_then, step_later, loaded_later, ended_is}
-use Rattle.world_build.proofs.Coded.{body_found, text_kept, joined_kept, word_text, word_takes, placed_around, name_around, argument_around, node_around, slot_around}
+use Rattle.world_build.proofs.Grown.{Extends, extends_then, extends_same, extends_world, extends_words, IsOpen, Later, later_then, step_later, loaded_later, ended_is}
+use Rattle.world_build.proofs.Coded.{body_found, text_kept, joined_kept, word_text, word_takes, placed_around, name_around, argument_around, node_around}
 
 -- Told slots, over some names and bodies.
 
@@ -301,8 +299,7 @@ stand_kept names xs ys ts us (e ∷ es) [] s k h = absurd h
 stand_kept names xs ys ts us (e ∷ es) (in_object o ∷ os) s k h =
     (record { slots = h.0.slots; at = k o (plain h.0.slots) h.0.at; claims = h.0.claims; below = h.0.below }, stand_kept names xs ys ts us es os s k h.1)
 stand_kept names xs ys ts us (e ∷ es) (in_body b ∷ os) s k h =
-    let y = s (b - 1) h.0.there h.0.at in
-    (
+    let y = s (b - 1) h.0.there h.0.at in (
       record { given = h.0.given; there = y.now; at = y.at; outer = y.outer ∙ h.0.outer; arguments = y.arguments ∙ h.0.arguments; below = h.0.below },
       stand_kept names xs ys ts us es os s k h.1,
     )
@@ -448,23 +445,21 @@ stand_outer names s u o xs [] [] p low h = tt
 stand_outer names s u o xs [] (q ∷ os) p low h = absurd h
 stand_outer names s u o xs (e ∷ es) [] p low h = absurd h
 stand_outer names s u o xs (e ∷ es) (in_object q ∷ os) p low h =
-    let lt : q < o = low.0 in
-    (
+    let lt : q < o = low.0 in (
       record { slots = h.0.slots; at = p.others q (plain h.0.slots) (λ f. omega arith) h.0.at; claims = h.0.claims; below = h.0.below },
       stand_outer names s u o xs es os p low.1 h.1,
     )
-stand_outer names s u o xs (e ∷ es) (in_body b ∷ os) p low h =
-    (
-      record {
-        given = h.0.given;
-        there = h.0.there;
-        at = ap (λ bs. slice_get bs (b - 1)) p.bodies ∙ h.0.at;
-        outer = h.0.outer;
-        arguments = h.0.arguments;
-        below = h.0.below;
-      },
-      stand_outer names s u o xs es os p low h.1,
-    )
+stand_outer names s u o xs (e ∷ es) (in_body b ∷ os) p low h = (
+  record {
+    given = h.0.given;
+    there = h.0.there;
+    at = ap (λ bs. slice_get bs (b - 1)) p.bodies ∙ h.0.at;
+    outer = h.0.outer;
+    arguments = h.0.arguments;
+    below = h.0.below;
+  },
+  stand_outer names s u o xs es os p low h.1,
+)
 
 things_placed : (names : List (List ℕ)) (bodies : List Body) (s u : Loading) (o : ℕ) (xs : List ToldSlot) → Placed s u o xs → SlotsOk names bodies xs → AllThings names bodies s.things → AllThings names bodies u.things
 things_placed names bodies s u o xs p ok h k x e = by (nat_eq k o) refl
@@ -491,8 +486,7 @@ stand_set names bodies things b y (e ∷ es) [] low h = absurd h
 stand_set names bodies things b y (e ∷ es) (in_object o ∷ os) low h = (h.0, stand_set names bodies things b y es os low h.1)
 stand_set names bodies things b y (e ∷ es) (in_body c ∷ os) low h =
     let lt : c < b = low.0 in
-    let some : 0 < c = h.0.given in
-    (
+    let some : 0 < c = h.0.given in (
       record {
         given = h.0.given;
         there = h.0.there;
@@ -522,8 +516,7 @@ argument_stand names k s (e ∷ es) (in_object o ∷ os) h = (record { slots = h
 argument_stand names k s (e ∷ es) (in_body b ∷ os) h =
     let x : Body = h.0.there in
     let is : changed (add_argument k) s.bodies b ≡ slice_set s.bodies (b - 1) (add_argument k x) = ap (λ o. change_body (add_argument k) o s.bodies (b - 1)) h.0.at in
-    subst (λ bs. Stand names bs s.things (frame e.named (e.arguments + 1) e.block e.names ∷ es) (in_body b ∷ os)) (sym is)
-    (
+    subst (λ bs. Stand names bs s.things (frame e.named (e.arguments + 1) e.block e.names ∷ es) (in_body b ∷ os)) (sym is) (
       record {
         given = h.0.given;
         there = add_argument k x;
@@ -1027,10 +1020,10 @@ module _ (first names : List (List ℕ)) (bytes : List ℕ) (t : Loading) (end :
       let named = name_named s.held m f v in
       let around : u.around ≡ s.around = placed_around (innermost s.around) m f x ∙ name_around s.held m f v in
       let stand : Stand names x.bodies x.things es s.around =
-          stand_kept names s.bodies x.bodies s.things x.things es s.around named.same (subst (λ ts. Kept s.things ts) (sym named.things) (λ i y e. e)) h.stand in
+      stand_kept names s.bodies x.bodies s.things x.things es s.around named.same (subst (λ ts. Kept s.things ts) (sym named.things) (λ i y e. e)) h.stand in
       let r = placed_settled names t.bodies w m f es s.around x
-          (λ e more o out first_is around_is. subst (λ k. Claimed names (added w e.names) m × Plan names t.bodies e.names m f k) (sym named.held) (own_plan s h.known w wide later z h.held f e more (subst (λ fs. SlotFits first fs z w f) first_is fits) o out around_is))
-          stand (subst (AllThings names t.bodies) (sym named.things) h.things) in
+      (λ e more o out first_is around_is. subst (λ k. Claimed names (added w e.names) m × Plan names t.bodies e.names m f k) (sym named.held) (own_plan s h.known w wide later z h.held f e more (subst (λ fs. SlotFits first fs z w f) first_is fits) o out around_is))
+      stand (subst (AllThings names t.bodies) (sym named.things) h.things) in
       record {
         stand = subst (λ os. Stand names u.bodies u.things (slotted w es) os) (sym around) r.stand;
         kinds = subst (λ os. Kinds 0 os rest) (sym around) (kinds_on (items.Slot w f p) rest (λ k. refl) 0 s.around h.kinds);

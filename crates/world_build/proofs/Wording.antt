@@ -1,5 +1,5 @@
 -- Names in parts, from the names of their parts.
-use Rattle.std.specs.Prelude.{◌≡◌, ℕ, ◌+◌, ◌<◌, ◌≤◌, ◌==◌, true, if◌then◌else◌, Option, Some, List, [], ◌∷◌, ◌++◌, unwrap_or, refl}
+use Rattle.std.specs.Prelude.{◌≡◌, ℕ, ◌+◌, ◌≤◌, ◌==◌, true, if◌then◌else◌, Some, List, [], ◌∷◌, ◌++◌, unwrap_or, refl}
 use Rattle.std.proofs.Common.{ap, sym, ◌∙◌, arith, append_assoc}
 use Rattle.std.proofs.lemmas.List.Sums.{sum_by-append}
 use Rattle.self_terms.specs.Names.{text_of}
@@ -10,7 +10,7 @@ use Rattle.self_grammar.specs.Parts.{parts_in, count_of, followed_by}
 use Rattle.source_model.specs.Names.{text_named}
 use Rattle.source_model.specs.Formed.{arity, HasText}
 use Rattle.world_build.specs.Names.{joined}
-use Rattle.world_build.proofs.Orders.{colons, begins_lettered, arity_lettered, Spelt, IsPlain, IsKeyword, IsPart, IsOperator, AllGiven, IsWhole, IsNamed, Calls}
+use Rattle.world_build.proofs.Orders.{colons, begins_lettered, arity_lettered, IsPlain, IsKeyword, IsPart, IsOperator, AllGiven, IsWhole, IsNamed, Calls}
 
 pub named_text : (names : List (List ℕ)) (n : ℕ) (t : List ℕ) → text_of names n ≡ Some t → text_named names n ≡ t
 named_text names n t e = ap (λ o. unwrap_or o []) e

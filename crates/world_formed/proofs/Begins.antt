@@ -1,6 +1,6 @@
 -- A session over the world of an accepted text begins well.
-use Rattle.std.specs.Prelude.{◌≡◌, ℕ, zero, suc, ◌+◌, ◌-◌, ◌<◌, ◌≤◌, ◌++◌, Option, None, Some, List, [], ◌∷◌, length, slice_get, codes, refl}
-use Rattle.std.proofs.Common.{ap, sym, subst, ◌∙◌, arith}
+use Rattle.std.specs.Prelude.{◌≡◌, ℕ, suc, ◌≤◌, ◌++◌, Some, List, [], ◌∷◌, length, slice_get, codes, refl}
+use Rattle.std.proofs.Common.{arith}
 use Rattle.self_terms.specs.declared.nodes.Node.{Node}
 use Rattle.self_terms.specs.declared.nodes.Node.TheVariants as nodes
 use Rattle.self_terms.specs.declared.values.Datum.{Datum}
@@ -14,14 +14,14 @@ use Rattle.self_grammar.specs.Spelling.{world, items_of}
 use Rattle.self_signs.specs.Signs.{signs, names_after}
 use Rattle.source_model.specs.Names.{number_of}
 use Rattle.source_model.specs.Canon.{Each}
-use Rattle.source_model.specs.Formed.{Takes, Says, IsGiven, IsSaid, ThingFits, ThingHolds, IsPlain, IsCore, AreWorld, CanBegin, IsWellFormed}
+use Rattle.source_model.specs.Formed.{Takes, Says, IsGiven, IsSaid, ThingFits, ThingHolds, IsPlain, IsCore, CanBegin, IsWellFormed}
 use Rattle.source_model.proofs.Beginning.{begins}
 use Rattle.world_build.specs.Worlds.{World}
 use Rattle.world_build.specs.Soundness.{IsSound}
 use Rattle.world_build.proofs.DataIntegers.{world_data}
 use Rattle.world_build.proofs.Contents.{There}
 use Rattle.world_build.proofs.Sure.{Short, Sure}
-use Rattle.world_build.proofs.Right.{Right, world_right}
+use Rattle.world_build.proofs.Right.{world_right}
 use Rattle.world_build.proofs.Grown.{Extends}
 use Rattle.world_build.proofs.Coded.{Said, BodyOk}
 use Rattle.world_build.proofs.Ordered.{world_slots, world_values, world_fixed, named_there, world_cores}

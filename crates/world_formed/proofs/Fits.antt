@@ -1,13 +1,11 @@
 -- The bodies of the world of an accepted text fit.
-use Rattle.std.specs.Prelude.{◌≡◌, ℕ, zero, suc, ◌+◌, ◌-◌, ◌<◌, ◌≤◌, true, false, Option, None, Some, List, [], ◌∷◌, length, slice_get, get_or, unwrap_or, refl}
+use Rattle.std.specs.Prelude.{◌≡◌, ℕ, zero, suc, ◌+◌, ◌-◌, ◌<◌, ◌≤◌, true, false, None, Some, List, [], ◌∷◌, length, slice_get, get_or, unwrap_or, refl}
 use Rattle.std.proofs.Common.{ap, sym, subst, ◌∙◌, arith}
 use Rattle.self_terms.specs.declared.nodes.Node.{Node}
 use Rattle.self_terms.specs.declared.nodes.Node.TheVariants as nodes
 use Rattle.self_terms.specs.declared.bodies.Body.{Body}
-use Rattle.self_terms.specs.Words.{IsSmall}
 use Rattle.self_terms.specs.Depths.{taken, depth, is_inner}
 use Rattle.self_tokens.specs.Tokens.{tokens}
-use Rattle.self_grammar.specs.declared.pieces.Item.{Item}
 use Rattle.self_grammar.specs.Spelling.{world, items_of}
 use Rattle.self_signs.specs.Signs.{signs, names_after}
 use Rattle.source_model.specs.Soundness.{body_in, HasBody, HasOuter, Names, IsFit}
@@ -16,7 +14,7 @@ use Rattle.world_build.specs.Soundness.{IsSound}
 use Rattle.world_build.specs.Worlds.{World}
 use Rattle.world_build.proofs.Orders.{frame, Keeps}
 use Rattle.world_build.proofs.Grown.{Extends, extends_same}
-use Rattle.world_build.proofs.Coded.{NodeOk, BodyOk, AllOk}
+use Rattle.world_build.proofs.Coded.{BodyOk, AllOk}
 use Rattle.world_build.proofs.Ordered.{world_code}
 use Rattle.world_build.proofs.Runnable.{accepted_sound}
 use Rattle.world_facts.specs.Accepted.{IsAccepted}

@@ -1,5 +1,5 @@
 -- The items that a text with nothing wrong says are right.
-use Rattle.std.specs.Prelude.{◌≡◌, ℕ, ◌+◌, ◌-◌, ◌<◌, ◌≤◌, ◌==◌, nat_le, nat_eq, Bool, true, false, not, ◌&&◌, ◌||◌, if◌then◌else◌, Option, None, Some, List, [], ◌∷◌, ◌++◌, length, map, refl}
+use Rattle.std.specs.Prelude.{◌≡◌, ℕ, ◌+◌, ◌-◌, ◌≤◌, ◌==◌, nat_le, nat_eq, Bool, true, false, not, ◌&&◌, ◌||◌, if◌then◌else◌, Option, None, Some, List, [], ◌∷◌, ◌++◌, length, map, refl}
 use Rattle.std.specs.List.{list_any}
 use Rattle.std.specs.Cmp.Lexicographic.{pointwise}
 use Rattle.std.proofs.Common.{ap, sym, subst, ◌∙◌, arith, append_assoc}
@@ -17,8 +17,7 @@ use Rattle.self_grammar.specs.declared.pieces.Words.{Words}
 use Rattle.self_grammar.specs.declared.pieces.Words.TheVariants as words
 use Rattle.self_grammar.specs.declared.pieces.Words.TheVariants.{One}
 use Rattle.self_grammar.specs.declared.pieces.Target.{Target}
-use Rattle.self_grammar.specs.declared.pieces.Target.TheVariants as target
-use Rattle.self_grammar.specs.declared.pieces.Target.TheVariants.{Given, Implied}
+use Rattle.self_grammar.specs.declared.pieces.Target.TheVariants.{Implied}
 use Rattle.self_grammar.specs.declared.pieces.Made.{Made}
 use Rattle.self_grammar.specs.declared.pieces.TextNode.{TextNode}
 use Rattle.self_grammar.specs.declared.pieces.TextNode.TheVariants as nodes
@@ -26,20 +25,20 @@ use Rattle.self_grammar.specs.declared.pieces.SlotForm.{SlotForm}
 use Rattle.self_grammar.specs.declared.pieces.SlotForm.TheVariants as form
 use Rattle.self_grammar.specs.declared.pieces.Item.{Item}
 use Rattle.self_grammar.specs.declared.pieces.Item.TheVariants as items
-use Rattle.self_grammar.specs.Parts.{parts_in, count_of, followed_by}
+use Rattle.self_grammar.specs.Parts.{parts_in, count_of}
 use Rattle.self_grammar.specs.Grammar as g
 use Rattle.self_grammar.specs.declared.signs.ReadKind.TheVariants as kind
 use Rattle.self_grammar.specs.Counts.{Limits, here, node, when, quiet, opening, closing, makes, saying, Breach, Held, Context, Event, Mark, Writer, write, owing, telling, placing, entering, finishing, placed, breaches, mark_at, nesting_after, counted, resumed, moved}
-use Rattle.self_grammar.specs.Scopes.{Owner, either, Scope, scope, activation, holder, named, has, again, with_name, with_argument, with_local, not_plain, too_many_arguments, too_many_locals, late_locals}
+use Rattle.self_grammar.specs.Scopes.{Owner, either, Scope, scope, activation, holder, named, has, again, with_name, with_argument, with_local, not_plain, too_many_locals, late_locals}
 use Rattle.self_grammar.specs.Spelling as s
 use Rattle.self_grammar.specs.Spelling.{items_of}
 use Rattle.self_grammar.specs.Refusal.{signs, AreSound, Expected, IsBarred, IsText}
 use Rattle.self_grammar.proofs.Places.{block_opening}
 use Rattle.self_grammar.proofs.SlotMoves as v'
 use Rattle.self_grammar.proofs.Balance.{front_empty, back_empty, none_first, unplaced}
-use Rattle.source_model.specs.Formed.{arity, HasText}
+use Rattle.source_model.specs.Formed.{arity}
 use Rattle.world_build.specs.Names.{joined}
-use Rattle.world_build.proofs.Orders.{colons, begins_lettered, Spelt, IsPlain, IsKeyword, IsPart, IsOperator, OfSymbol, AllGiven, IsWhole, IsNamed, Calls, TargetFits, NodeFits, NodeStands, Frame, frame, added, argued, slotted, outer, IsSome, IsInner, IsOne, ClosesObject, given_by, IsNew, Sets, SlotFits, Keeps, keeps_any, closed_as_body}
+use Rattle.world_build.proofs.Orders.{IsPlain, IsKeyword, IsOperator, OfSymbol, IsNamed, TargetFits, NodeFits, NodeStands, Frame, frame, added, slotted, IsSome, IsInner, IsOne, SlotFits, Keeps, keeps_any, closed_as_body}
 use Rattle.world_build.proofs.Wording.{Keywords, keyword_one, keyword_further, keywords_named, keywords_arity, keywords_call, plain_named, plain_arity, plain_calls, operator_named, operator_arity, operator_calls}
 
 -- What holds of the names of the signs of marks that are sound.

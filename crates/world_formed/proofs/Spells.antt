@@ -1,16 +1,13 @@
 -- What is so of the names of the signs of a text.
-use Rattle.std.specs.Prelude.{◌≡◌, ℕ, zero, suc, ◌+◌, ◌-◌, ◌*◌, ◌==◌, nat_eq, nat_le, Bool, true, false, not, ◌&&◌, ◌||◌, if◌then◌else◌, Option, None, Some, List, [], ◌∷◌, ◌++◌, length, map, take, drop, fold, slice_get, slice_index, slice_range, option_map, option_to_list, refl}
-use Rattle.std.specs.List.{list_any, prefix_len, position_or_len}
-use Rattle.std.specs.Cmp.Lexicographic.{pointwise, same_text}
+use Rattle.std.specs.Prelude.{◌≡◌, ℕ, zero, suc, ◌+◌, ◌-◌, ◌==◌, nat_le, Bool, true, false, ◌||◌, if◌then◌else◌, List, [], ◌∷◌, ◌++◌, length, map, take, drop, fold, slice_index, refl}
+use Rattle.std.specs.List.{list_any, prefix_len}
 use Rattle.std.specs.Char.{is_ascii_digit, is_ascii_lowercase, is_ascii_uppercase}
 use Rattle.std.proofs.Common.{ap, sym, subst, ◌∙◌, inl, inr, arith}
 use Rattle.std.proofs.lemmas.Bool.{cases_Bool}
 use Rattle.std.proofs.lemmas.Grind.{common_steps}
-use Rattle.std.proofs.lemmas.Cmp.{nat_list_eq_equiv}
 use Rattle.std.proofs.lemmas.List.{drop-drop}
 use Rattle.std.proofs.lemmas.List.Sums.{sum_by-cons}
-use Rattle.std.proofs.lemmas.List.Folds.{list_any-append}
-use Rattle.self_terms.specs.Names.{text_of as text_at, with_text}
+use Rattle.self_terms.specs.Names.{with_text}
 use Rattle.self_tokens.specs.declared.symbols.Kind.{Kind}
 use Rattle.self_tokens.specs.declared.symbols.Kind.TheVariants as kind
 use Rattle.self_tokens.specs.declared.symbols.Fault.TheVariants as fault
@@ -21,15 +18,15 @@ use Rattle.self_tokens.specs.Classes.{is_blank, is_word_byte, is_operator_byte, 
 use Rattle.self_tokens.specs.Forms as f
 use Rattle.self_tokens.specs.Kinds.{ends_operand}
 use Rattle.self_tokens.specs.Texts.{text_of}
-use Rattle.self_tokens.specs.Tokens.{tokens, tokens_from, from_piece, token}
+use Rattle.self_tokens.specs.Tokens.{tokens, tokens_from, from_piece}
 use Rattle.self_grammar.specs.declared.signs.Symbol.{Symbol}
-use Rattle.self_signs.specs.Signs.{signs, sign_of, symbol_at, number_of, names_after, named_by, needed, setter, argument_name, delegate_name, is_restart, is_restart_keyword, unhandled}
+use Rattle.self_signs.specs.Signs.{signs, sign_of, symbol_at, number_of, names_after, named_by, needed, setter, delegate_name, is_restart, is_restart_keyword}
 use Rattle.source_model.specs.Names.{number_from}
 use Rattle.source_model.specs.Names as source
-use Rattle.source_model.specs.Formed.{is_letter, arity, HasText}
-use Rattle.world_build.proofs.Orders.{colons, begins_lettered, Spelt, IsPlain, IsKeyword, IsPart, IsOperator, OfSymbol}
+use Rattle.source_model.specs.Formed.{is_letter, arity}
+use Rattle.world_build.proofs.Orders.{colons, begins_lettered, Spelt, OfSymbol}
 use Rattle.world_build.proofs.Wording.{colons_append, lettered_more}
-use Rattle.world_build.proofs.Given.{IsIn, in_with, own_in, Found, found, spelt}
+use Rattle.world_build.proofs.Given.{IsIn, in_with, own_in, found, spelt}
 use Rattle.world_formed.proofs.Said.{OfSigns}
 
 -- The forms of tokens.
