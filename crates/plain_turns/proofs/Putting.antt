@@ -69,7 +69,7 @@ unmade_set (zero ∷ es) (suc k) a e = omega (arith, unmade_set es k a e)
 unmade_set (suc b ∷ es) (suc k) a e = unmade_set es k a e
 
 -- a method's locals are its own
-short_node : (locals : ℕ) (node : Node) → IsOwn locals node → IsShort 64 node → IsShort 7 node
+short_node : (locals : ℕ) (node : Node) → IsOwn locals node → IsShort 64 node → IsShort 16 node
 short_node locals (nodes.Read zero slot) own short = (omega arith, short.1)
 short_node locals (nodes.Read (suc up) slot) own short = absurd own
 short_node locals (nodes.Store zero slot) own short = (omega arith, short.1)
@@ -83,7 +83,7 @@ short_node locals (nodes.Directed p sel) own short = short
 short_node locals (nodes.Prim name args implied handler) own short = short
 short_node locals _ own short = tt
 
-short_body : (bodies : List Body) (b : ℕ) → IsFit bodies b → HasNoBlocks (body_in bodies b) → AreShort 64 (body_in bodies b).nodes → AreShort 7 (body_in bodies b).nodes
+short_body : (bodies : List Body) (b : ℕ) → IsFit bodies b → HasNoBlocks (body_in bodies b) → AreShort 64 (body_in bodies b).nodes → AreShort 16 (body_in bodies b).nodes
 short_body bodies b fit plain short k node is = short_node (frame_locals (body_in bodies b)) node (own_node bodies b k node fit plain is) (short k node is)
 
 body_there : (bodies : List Body) (b : ℕ) → HasBody bodies b → slice_get bodies (b - 1) ≡ Some (body_in bodies b)
@@ -122,7 +122,7 @@ module _ (h : Host) (from : State) (target room : ℕ) (x : IsAtTrap h 1 from ta
     bare = blockless_body body built
 
     long : length (unit_code h.references body) ≤ most_words body
-    long = unit_long 7 h.references body (omega arith) (short_body h.bodies c.0 (x.plain.fit c.0 given) bare translates.short)
+    long = unit_long 16 h.references body (omega arith) (short_body h.bodies c.0 (x.plain.fit c.0 given) bare translates.short)
 
     fits : next_unit h + 4 * length (unit_code h.references body) ≤ 0x12000000
     fits = omega (arith, long, unput_there h.entries h.bodies (c.0 - 1) body none (body_there h.bodies c.0 given), x.room.left)
