@@ -1,0 +1,5 @@
+use Rattle.plain_opens.proofs.Opening.{opened_rests}
+use Rattle.plain_opens.proofs.laws.worlds_open.Goals as goal
+
+pub returns : goal.returns
+returns c = λ i memory names advisors stands loaded within can formed sums. opened_rests i memory names advisors stands loaded within can formed sums

@@ -1,0 +1,2 @@
+-- Worlds that were opened.
+pub mod Opens
