@@ -1,7 +1,7 @@
 -- The words of all units, counted body by body.
 use Rattle.std.proofs.Common.{◌≡◌, ap, ◌∙◌, sym, subst, ℕ, zero, suc, ◌+◌, ◌<◌, ◌≤◌, List, [], ◌∷◌, length, drop, arith}
-use Rattle.std.specs.Prelude.{true, false, nat_le, Some, slice_get}
-use Rattle.std.proofs.lemmas.Bool.{le-leb, lt-leb}
+use Rattle.std.specs.Prelude.{false, nat_le, Some, slice_get}
+use Rattle.std.proofs.lemmas.Bool.{lt-leb}
 use Rattle.self_terms.specs.declared.bodies.Body.{Body}
 use Rattle.plain_turns.specs.Rooms.{most_words}
 use Rattle.plain_opens.specs.Opens.{all_words}
@@ -16,12 +16,6 @@ all_here [] k x e = absurd (cc)
 all_here (y ∷ xs) zero x e = let same : y ≡ x = cc in ap (λ (z : Body). most_words z + all_words xs) same
 all_here (y ∷ xs) (suc k) x e = all_here xs k x e
 
-all_past : (xs : List Body) (k : ℕ) → length xs ≤ k → all_words (drop k xs) ≡ 0
-all_past [] zero h = cc
-all_past [] (suc k) h = cc
-all_past (x ∷ xs) zero h = absurd (omega (arith, h))
-all_past (x ∷ xs) (suc k) h = all_past xs k (omega (arith, h))
-
 -- one body more
 pub one_counted : (xs : List Body) (k left rest : ℕ) (x : Body) → slice_get xs k ≡ Some x → rest + most_words x ≡ left → IsCounted xs k left → IsCounted xs (k + 1) rest
 one_counted xs k left rest x e f c =
@@ -35,10 +29,3 @@ too_many xs k left x e f c =
     let here = all_here xs k x e in
     let over : 8388352 < all_words xs = omega (arith, here, f, c.all) in
     sym (lt-leb (all_words xs) 8388352 over)
-
--- all are counted
-pub all_counted : (xs : List Body) (k left : ℕ) → length xs ≤ k → IsCounted xs k left → true ≡ nat_le (all_words xs) 8388352
-all_counted xs k left h c =
-    let none = all_past xs k h in
-    let fit : all_words xs ≤ 8388352 = omega (arith, none, c.all) in
-    sym (le-leb (all_words xs) 8388352 fit)

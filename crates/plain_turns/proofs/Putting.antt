@@ -178,28 +178,32 @@ module _ (h : Host) (from : State) (target room : ℕ) (x : IsAtTrap h 1 from ta
           let m2 : MachineState = record h.machine { memory = memory } in
           let bytes = behind_poll q.selector.args in
           let mv2 : Moved to.machine m2 (x.last.pc + bytes) memory (x.last.regs 2) = (let P : ℕ → Type 0 = λ a. Moved to.machine m2 a memory (x.last.regs 2) in
-            subst P (behind_is h from target x) (record { stands = mv.stands; memory_is = refl; counted = mv.counted; kept = mv.kept; older = mv.older })) in
+          subst P (behind_is h from target x) (record { stands = mv.stands; memory_is = refl; counted = mv.counted; kept = mv.kept; older = mv.older })) in
           let few : goal ≤ 1000000000 = omega (arith, counted_is h from target x, x.left_is, x.near) in
           let set = back_again x.sense to s m2 bytes on mv2 goal cost few in
           let last = goes_back bytes goal cost (with_unit c.0 memory h) in
           let plain2 : IsBlockless last = record { fit = plain_to.fit; units = plain_to.units } in
           let fewer_left : unmade (slice_set h.entries (c.0 - 1) (next_unit h)) < unmade h.entries = (let P : ℕ → Type 0 = λ a. unmade (slice_set h.entries (c.0 - 1) a) < unmade h.entries in subst P (omega arith) (unmade_set h.entries (c.0 - 1) (next_unit h - 1) none)) in
-          record { going = record {
-            sense = x.sense;
-            state = s;
-            done = x.done;
-            runs = x.runs;
-            counted = x.counted;
-            all = x.on.sound.runs;
-            current = x.on.sound.current;
-            formed = x.formed;
-            plain = plain2;
-            room = record { each = room_to.each; left = room_to.left; lobby = room_to.lobby };
-            left = goal;
-            near = few;
-            left_is = omega (arith, counted_is h from target x, x.left_is);
-            stretch = polls_stretch x.sense last s goal set plain2;
-          }; same = omega (arith, counted_is h from target x); fewer = fewer_left; }
+          record {
+            going = record {
+              sense = x.sense;
+              state = s;
+              done = x.done;
+              runs = x.runs;
+              counted = x.counted;
+              all = x.on.sound.runs;
+              current = x.on.sound.current;
+              formed = x.formed;
+              plain = plain2;
+              room = record { each = room_to.each; left = room_to.left; lobby = room_to.lobby };
+              left = goal;
+              near = few;
+              left_is = omega (arith, counted_is h from target x, x.left_is);
+              stretch = polls_stretch x.sense last s goal set plain2;
+            };
+            same = omega (arith, counted_is h from target x);
+            fewer = fewer_left;
+          }
 
 pub methods_there : MethodsAreThere
 methods_there h from target room x le holder c e = (given h from target room x le holder c e, translates h from target room x le holder c e, entry_at h from target room x le holder c e (slice_get h.entries (c.0 - 1)) refl)
