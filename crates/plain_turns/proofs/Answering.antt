@@ -133,7 +133,7 @@ module _ (h : Host) (from : State) (target room : ℕ) (x : IsAtTrap h 1 from ta
       let few : goal ≤ 1000000000 = omega (arith, is, rest_is, x.near) in
       let older : h.machine.regs 4 ≡ suc x.on.at.view.older = (moved h from target x).kept 4 refl ∙ x.on.at.view.count in
       let d = methods_called x.sense poll_host x.state x.on.body x.on.number x.on.node q.selector x.on.at q.sent x.on.sound.stands q.can o.method.object c holder at o.method.met_is o.method.inside o.method.there (x.on.sound.hosted.units c.0 at given.0 entry some) bare.context bare.method
-          (x.plain.fit c.0 given).some o.accepts.arguments (omega (arith, older, room_left)) goal cost few in
+      (x.plain.fit c.0 given).some o.accepts.arguments (omega (arith, older, room_left)) goal cost few in
       let h1 = calls goal cost at holder (with_machine poll_host q.sent.asks.to) in
       let built : gated_step x.state ≡ step x.state = entering h from target x true (gate_by x.sense x.state h.bodies q.selector.args holder c _ x.on.sound.stands.bodies found ∙ entry_plain c at given.0 entry some) in
       let before : h.steps + x.last.regs 2 ≡ x.state.steps = x.on.sound.stands.stands.steps in

@@ -44,7 +44,7 @@ use Rattle.plain_turns.proofs.Telling.{given_by, blockless_body}
 -- Room.
 
 -- a body without a unit takes its words of the room that is kept
-unput_there : (es : List ℕ) (xs : List Body) (k : ℕ) (x : Body) → slice_get es k ≡ Some 0 → slice_get xs k ≡ Some x → most_words x ≤ unput es xs
+pub unput_there : (es : List ℕ) (xs : List Body) (k : ℕ) (x : Body) → slice_get es k ≡ Some 0 → slice_get xs k ≡ Some x → most_words x ≤ unput es xs
 unput_there [] xs k x e f = absurd (none-some 0 e)
 unput_there (e0 ∷ es) [] k x e f = absurd (none-some x f)
 unput_there (zero ∷ es) (y ∷ ys) zero x e f = let same : y ≡ x = same_Some y x f in omega (arith, ap most_words same)
@@ -53,7 +53,7 @@ unput_there (zero ∷ es) (y ∷ ys) (suc k) x e f = omega (arith, unput_there e
 unput_there (suc a ∷ es) (y ∷ ys) (suc k) x e f = unput_there es ys k x e f
 
 -- and leaves the rest once it has one
-unput_set : (es : List ℕ) (xs : List Body) (k a : ℕ) (x : Body) → slice_get es k ≡ Some 0 → slice_get xs k ≡ Some x → unput (slice_set es k (suc a)) xs + most_words x ≡ unput es xs
+pub unput_set : (es : List ℕ) (xs : List Body) (k a : ℕ) (x : Body) → slice_get es k ≡ Some 0 → slice_get xs k ≡ Some x → unput (slice_set es k (suc a)) xs + most_words x ≡ unput es xs
 unput_set [] xs k a x e f = absurd (none-some 0 e)
 unput_set (e0 ∷ es) [] k a x e f = absurd (none-some x f)
 unput_set (zero ∷ es) (y ∷ ys) zero a x e f = let same : y ≡ x = same_Some y x f in omega (arith, ap most_words same)
@@ -61,7 +61,7 @@ unput_set (suc b ∷ es) (y ∷ ys) zero a x e f = absurd (omega (arith, same_So
 unput_set (zero ∷ es) (y ∷ ys) (suc k) a x e f = omega (arith, unput_set es ys k a x e f)
 unput_set (suc b ∷ es) (y ∷ ys) (suc k) a x e f = unput_set es ys k a x e f
 
-unmade_set : (es : List ℕ) (k a : ℕ) → slice_get es k ≡ Some 0 → unmade (slice_set es k (suc a)) < unmade es
+pub unmade_set : (es : List ℕ) (k a : ℕ) → slice_get es k ≡ Some 0 → unmade (slice_set es k (suc a)) < unmade es
 unmade_set [] k a e = absurd (none-some 0 e)
 unmade_set (zero ∷ es) zero a e = omega arith
 unmade_set (suc b ∷ es) zero a e = absurd (omega (arith, same_Some (suc b) 0 e))
@@ -69,7 +69,7 @@ unmade_set (zero ∷ es) (suc k) a e = omega (arith, unmade_set es k a e)
 unmade_set (suc b ∷ es) (suc k) a e = unmade_set es k a e
 
 -- a method's locals are its own
-short_node : (locals : ℕ) (node : Node) → IsOwn locals node → IsShort 64 node → IsShort 7 node
+short_node : (locals : ℕ) (node : Node) → IsOwn locals node → IsShort 64 node → IsShort 16 node
 short_node locals (nodes.Read zero slot) own short = (omega arith, short.1)
 short_node locals (nodes.Read (suc up) slot) own short = absurd own
 short_node locals (nodes.Store zero slot) own short = (omega arith, short.1)
@@ -83,10 +83,10 @@ short_node locals (nodes.Directed p sel) own short = short
 short_node locals (nodes.Prim name args implied handler) own short = short
 short_node locals _ own short = tt
 
-short_body : (bodies : List Body) (b : ℕ) → IsFit bodies b → HasNoBlocks (body_in bodies b) → AreShort 64 (body_in bodies b).nodes → AreShort 7 (body_in bodies b).nodes
+pub short_body : (bodies : List Body) (b : ℕ) → IsFit bodies b → HasNoBlocks (body_in bodies b) → AreShort 64 (body_in bodies b).nodes → AreShort 16 (body_in bodies b).nodes
 short_body bodies b fit plain short k node is = short_node (frame_locals (body_in bodies b)) node (own_node bodies b k node fit plain is) (short k node is)
 
-body_there : (bodies : List Body) (b : ℕ) → HasBody bodies b → slice_get bodies (b - 1) ≡ Some (body_in bodies b)
+pub body_there : (bodies : List Body) (b : ℕ) → HasBody bodies b → slice_get bodies (b - 1) ≡ Some (body_in bodies b)
 body_there bodies b given = got bodies (b - 1) _ (omega (arith, given.0, given.1))
   where
     got : (xs : List Body) (k : ℕ) (d : Body) → k < length xs → slice_get xs k ≡ Some (unwrap_or (slice_get xs k) d)
@@ -122,7 +122,7 @@ module _ (h : Host) (from : State) (target room : ℕ) (x : IsAtTrap h 1 from ta
     bare = blockless_body body built
 
     long : length (unit_code h.references body) ≤ most_words body
-    long = unit_long 7 h.references body (omega arith) (short_body h.bodies c.0 (x.plain.fit c.0 given) bare translates.short)
+    long = unit_long 16 h.references body (omega arith) (short_body h.bodies c.0 (x.plain.fit c.0 given) bare translates.short)
 
     fits : next_unit h + 4 * length (unit_code h.references body) ≤ 0x12000000
     fits = omega (arith, long, unput_there h.entries h.bodies (c.0 - 1) body none (body_there h.bodies c.0 given), x.room.left)
@@ -178,28 +178,32 @@ module _ (h : Host) (from : State) (target room : ℕ) (x : IsAtTrap h 1 from ta
           let m2 : MachineState = record h.machine { memory = memory } in
           let bytes = behind_poll q.selector.args in
           let mv2 : Moved to.machine m2 (x.last.pc + bytes) memory (x.last.regs 2) = (let P : ℕ → Type 0 = λ a. Moved to.machine m2 a memory (x.last.regs 2) in
-            subst P (behind_is h from target x) (record { stands = mv.stands; memory_is = refl; counted = mv.counted; kept = mv.kept; older = mv.older })) in
+          subst P (behind_is h from target x) (record { stands = mv.stands; memory_is = refl; counted = mv.counted; kept = mv.kept; older = mv.older })) in
           let few : goal ≤ 1000000000 = omega (arith, counted_is h from target x, x.left_is, x.near) in
           let set = back_again x.sense to s m2 bytes on mv2 goal cost few in
           let last = goes_back bytes goal cost (with_unit c.0 memory h) in
           let plain2 : IsBlockless last = record { fit = plain_to.fit; units = plain_to.units } in
           let fewer_left : unmade (slice_set h.entries (c.0 - 1) (next_unit h)) < unmade h.entries = (let P : ℕ → Type 0 = λ a. unmade (slice_set h.entries (c.0 - 1) a) < unmade h.entries in subst P (omega arith) (unmade_set h.entries (c.0 - 1) (next_unit h - 1) none)) in
-          record { going = record {
-            sense = x.sense;
-            state = s;
-            done = x.done;
-            runs = x.runs;
-            counted = x.counted;
-            all = x.on.sound.runs;
-            current = x.on.sound.current;
-            formed = x.formed;
-            plain = plain2;
-            room = record { each = room_to.each; left = room_to.left; lobby = room_to.lobby };
-            left = goal;
-            near = few;
-            left_is = omega (arith, counted_is h from target x, x.left_is);
-            stretch = polls_stretch x.sense last s goal set plain2;
-          }; same = omega (arith, counted_is h from target x); fewer = fewer_left; }
+          record {
+            going = record {
+              sense = x.sense;
+              state = s;
+              done = x.done;
+              runs = x.runs;
+              counted = x.counted;
+              all = x.on.sound.runs;
+              current = x.on.sound.current;
+              formed = x.formed;
+              plain = plain2;
+              room = record { each = room_to.each; left = room_to.left; lobby = room_to.lobby };
+              left = goal;
+              near = few;
+              left_is = omega (arith, counted_is h from target x, x.left_is);
+              stretch = polls_stretch x.sense last s goal set plain2;
+            };
+            same = omega (arith, counted_is h from target x);
+            fewer = fewer_left;
+          }
 
 pub methods_there : MethodsAreThere
 methods_there h from target room x le holder c e = (given h from target room x le holder c e, translates h from target room x le holder c e, entry_at h from target room x le holder c e (slice_get h.entries (c.0 - 1)) refl)

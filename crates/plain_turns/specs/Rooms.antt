@@ -5,7 +5,7 @@ use Rattle.plain_runs.specs.Host.{Host}
 
 -- the most words that the unit of a method without block literals takes
 abbrev pub most_words : Body → ℕ
-most_words x = 17 * length x.nodes + 16 * (length x.arguments + length x.locals) + 64
+most_words x = 26 * length x.nodes + 16 * (length x.arguments + length x.locals) + 64
 
 -- those of the bodies that have no unit yet
 abbrev pub unput : List ℕ → List Body → ℕ
