@@ -1,0 +1,10 @@
+pub mod Bounds
+pub mod Heaped
+pub mod Called
+pub mod Saved
+pub mod Others
+pub mod Views
+pub mod Inside
+pub mod Initials
+pub mod Free
+pub mod Asked

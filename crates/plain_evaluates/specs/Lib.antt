@@ -1,0 +1,3 @@
+-- Activations that plain code enters, with contexts and without, of methods and of blocks.
+pub mod Entries
+pub mod Evaluates
