@@ -8,3 +8,6 @@ pub mod Inside
 pub mod Initials
 pub mod Free
 pub mod Asked
+pub mod Laid
+pub mod Words
+pub mod Entered
