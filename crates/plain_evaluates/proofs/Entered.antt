@@ -1,29 +1,39 @@
 -- An activation that a message begins, over any words of an entry that do what is asked of them.
 use Rattle.std.proofs.Common.{◌≡◌, ◌≢◌, ℕ, zero, suc, ◌+◌, ◌-◌, ◌*◌, ◌%◌, ◌^◌, ◌<◌, ◌≤◌, refl, ◌∙◌, ap, sym, subst, arith, length-append}
-use Rattle.std.specs.Prelude.{Bool, true, false, if◌then◌else◌, List, [], ◌∷◌, ◌++◌, length, Some, slice_get, slice_set}
+use Rattle.std.specs.List.{list_any}
+use Rattle.std.specs.Prelude.{Bool, true, false, if◌then◌else◌, ◌||◌, List, [], ◌∷◌, ◌++◌, length, Some, slice_get, slice_set}
 use Rattle.object_maps.specs.declared.layout.Heap.{Heap}
 use Rattle.self_terms.specs.declared.bodies.Body.{Body}
 use Rattle.self_terms.specs.declared.nodes.Node.{Node}
+use Rattle.self_terms.specs.declared.nodes.Node.TheVariants as nodes
 use Rattle.self_terms.specs.declared.nodes.Selector.{Selector}
 use Rattle.self_terms.specs.Depths.{depth}
-use Rattle.sparc_store.specs.Words.{Words}
+use Rattle.sparc_store.specs.Words.{Words, Framed}
+use Rattle.sparc_store.specs.Windows.{Frame as Window, frame_before, but_first}
 use Rattle.sparc_machine.specs.State.{MachineState}
 use Rattle.source_model.specs.Soundness.{body_in}
-use Rattle.source_model.specs.State.{State}
-use Rattle.source_model.specs.Step.{step}
-use Rattle.frame_walk.specs.Places.{Frame}
-use Rattle.frame_walk.specs.Raw.{Thread, Going}
-use Rattle.raw_steps.specs.Sends.{frame_at, raw_after}
-use Rattle.raw_steps.specs.Stands.{Sense, Follows as RawFollows}
+use Rattle.source_model.specs.Messages.{body_of}
+use Rattle.source_model.specs.Sends.{enters, is_block_literal as by_source}
+use Rattle.source_model.specs.State.{Activation, State}
+use Rattle.source_model.specs.Step.{done, step}
+use Rattle.heap_cells.specs.Shapes.{Context, words_of}
+use Rattle.frame_walk.specs.Places.{Descriptor, Frame}
+use Rattle.frame_walk.specs.Raw.{Thread, Going, Raw, becomes, IsFree}
+use Rattle.frame_walk.specs.Walk.{activations}
+use Rattle.raw_steps.specs.Sends.{here_of, at_node, frame_at, raw_after, begins, Entry, RawEntry, IsEntry, plain_frame, context_frame}
+use Rattle.raw_steps.specs.Stands.{Sense, AreActivations, HasMaker, makes_blocks, Follows as RawFollows}
+use Rattle.raw_steps.proofs.Calling.{plain_enters, context_enters}
+use Rattle.raw_steps.proofs.Nexts.{current_all}
 use Rattle.plain_words.specs.Moves.{registers_from}
 use Rattle.plain_words.specs.Showing.{viewed}
-use Rattle.plain_words.specs.Units.{entry_code, initial_words, owns_context, of_block, numbered, frame_locals, frame_words}
-use Rattle.plain_runs.specs.Host.{Host, seen, threads_from, raw_of, heap_words}
+use Rattle.plain_words.specs.Units.{entry_code, initial_words, owns_context, of_block, numbered, frame_locals, frame_words, is_block_literal as by_words}
+use Rattle.plain_runs.specs.Host.{Host, seen, threads_from, raw_of, heap_words, descriptor_at}
 use Rattle.plain_runs.specs.Sound.{RunsAt, callers_of}
 use Rattle.plain_runs.specs.Course.{with_machine, CanGo}
 use Rattle.plain_runs.specs.Services.{handed, calls}
 use Rattle.plain_runs.proofs.Keeping.{threads_set}
 use Rattle.plain_steps.specs.Steps.{StandsFor, DoesStep}
+use Rattle.plain_steps.proofs.Answering.{wants_none}
 use Rattle.plain_steps.proofs.Words.{stands_after}
 use Rattle.plain_sends.specs.Sends.{IsSent}
 use Rattle.plain_sends.proofs.Resumming.{runs_as, hosted_as, threads_as}
@@ -32,9 +42,10 @@ use Rattle.plain_sends.proofs.Settling.{KeptTo, StillThere, kept_to, stays_there
 use Rattle.plain_evaluates.specs.Entries.{CanStart, HasTop, HasRoom, CanBegin, Begins, given_maker, given_receiver, given_holder, own_context, cost_then, top_then, in_frame, begun_memory}
 use Rattle.plain_evaluates.specs.Evaluates.{EntriesBegin, CanKeep, HasSpace, IsOpen, context_words}
 use Rattle.plain_evaluates.proofs.Asked.{four_others, sender_shown, machine_called, call_settles, AtEntry, at_entry}
-use Rattle.plain_evaluates.proofs.Bounds.{initial_long, entry_few}
-use Rattle.plain_evaluates.proofs.Called.{IsCalled, place_below, place_there, place_is}
-use Rattle.plain_evaluates.proofs.Heaped.{filled_past}
+use Rattle.plain_evaluates.proofs.Bounds.{frame_least, initial_long, entry_few}
+use Rattle.plain_evaluates.proofs.Called.{IsCalled, place_below, place_there, place_is, place_stack}
+use Rattle.plain_evaluates.proofs.Free.{free_below}
+use Rattle.plain_evaluates.proofs.Heaped.{framed_in_heap, filled_past}
 use Rattle.plain_evaluates.proofs.Inside.{sender_frame, is_inside}
 use Rattle.plain_evaluates.proofs.Laid.{laid, kept_laid}
 use Rattle.plain_evaluates.proofs.Saved.{Shape, frame_of, memory_after}
@@ -62,6 +73,30 @@ cell_of owns block h c m = context_part owns (numbered h.references.contexts ∷
 abbrev pub cost_more : Bool → ℕ → ℕ
 cost_more false n = 0
 cost_more true n = 4 + n
+
+activations_long : (descs : ℕ → Descriptor) (memory : Words) (n sp : ℕ) (w : Window) (pc : ℕ) (held : List Window) → length (activations descs memory n sp w pc held) ≡ n
+unfolding activations
+activations_long descs memory zero sp w pc held = refl
+activations_long descs memory (suc n) sp w pc held = ap suc (activations_long descs memory n (w 14) (frame_before memory (w 14) held) (w 15 + 8) (but_first held))
+
+as_many : (wants : ℕ → Bool) (z : Sense) (at : ℕ) (all : List Activation) (fs : List Frame) → AreActivations wants z at all fs → length all ≡ length fs
+as_many wants z at [] [] h = refl
+as_many wants z at (a ∷ all) (f ∷ fs) h = ap suc (as_many wants z at all fs h.2)
+as_many wants z at [] (f ∷ fs) h = absurd h
+as_many wants z at (a ∷ all) [] h = absurd h
+
+-- Whether a body has a block literal, in words and in the source.
+literal_same : (n : Node) → by_source n ≡ by_words n
+literal_same (nodes.BlockLit b) = refl
+literal_same _ = refl
+
+any_same : (xs : List Node) → list_any by_source xs ≡ list_any by_words xs
+any_same [] = refl
+any_same (x ∷ xs) = ap (λ q. q || list_any by_source xs) (literal_same x) ∙ ap (λ q. by_words x || q) (any_same xs)
+
+pub wants_one : (h : Host) (s : State) (b y : ℕ) → h.bodies ≡ s.bodies → b ≡ y → owns_context (body_in h.bodies b) ≡ true → makes_blocks s y ≡ true
+wants_one h s b y e same owns =
+    any_same (body_in s.bodies y).nodes ∙ ap (λ k. owns_context (body_in s.bodies k)) (sym same) ∙ ap (λ bs. owns_context (body_in bs b)) (sym e) ∙ owns
 
 registers_long : (f : ℕ → ℕ) (r n : ℕ) → length (registers_from f r n) ≡ n
 registers_long f r zero = refl
@@ -269,3 +304,89 @@ module _ (words : EntriesBegin) (z : Sense) (h : Host) (s : State) (b n : ℕ) (
         counted = sym raw.stands.steps ∙ ap (λ y. y + 1) stood.stands.steps;
         silent = raw.same;
       }
+
+  -- What the source enters, and its words.
+  module _ (e : Entry) (y : RawEntry) (is : IsEntry s z e y) (body_is : e.body ≡ c) (receiver_is : given_receiver block mc ≡ y.receiver) (holder_is : given_holder block mc ≡ y.holder) (outer_is : given_maker block mc ≡ y.outer)
+      (words_are : all_words h c mc ≡ y.arguments ++ y.initial) (done_is : done (here_of s q.sender q.older) node ≡ enters (begins s e) (at_node q.sender.next q.message.rest q.sender ∷ q.older) s)
+      (maker : HasMaker (at_node q.sender.next q.message.rest q.sender ∷ q.older) e.maker) (arguments : length e.arguments ≡ length x.arguments) where
+    abbrev Target : Bool → Type 0
+    Target o =
+        RawFollows z (raw_after (raw_of h) (heap_words (laid mc (cell_of o block h c mc)).memory) (record { top = top_then o mc count; next = h.next })
+        (Going (frame_of c place (shape_of o block h c mc) ∷ frame_at f.next q.words.rest f ∷ callers_of h r.view.older)) (h.cost + h.machine.regs 3 + cost_more o count)) (step s) []
+
+    many : length q.older ≡ r.view.older
+    many =
+        let m = h.machine in
+        let fs = callers_of h r.view.older in
+        let all = current_all (raw_of h) s z stood.stands q.sender q.older f fs node q.is_at in
+        as_many (makes_blocks s) z s.current q.older fs all.2 ∙ activations_long (descriptor_at h) m.memory r.view.older (m.regs 30) (frame_before m.memory (m.regs 30) m.older) (m.regs 31 + 8) (but_first m.older)
+
+    free : IsFree (raw_of h).threads place
+    free =
+        let least = frame_least x in
+        let below = place_is hm b n c at node entry_before.called in
+        free_below h b n node r can.hosted can.runs place (omega (arith, below, least, kept_called.frame)) (place_stack hm b n c at node entry_before.called)
+
+    positive : place ≢ 0
+    positive bad = let there = place_there hm b n c at node entry_before.called in absurd (omega (arith, bad, there.1))
+
+    few_older : suc (length q.older) < 4096
+    few_older = let a = many in let b = is_open.few in omega arith
+
+    body_of_it : y.body ≡ c
+    body_of_it = is.body ∙ body_is
+
+    long : length (y.arguments ++ y.initial) ≡ count
+    long = ap length (sym words_are) ∙ words_long h c mc
+
+    heap_same : heap_words mc.memory ≡ heap_words h.machine.memory
+    heap_same = (call_settles z h s b n node sel r q can goal cost at holder low).memory.heap
+
+    by_kind : (o : Bool) → owns_context x ≡ o → CanKeep o h c → Target o
+    by_kind false plain keep =
+        let raw = plain_enters (raw_of h) s z stood.stands q.sender q.older f (callers_of h r.view.older) node q.is_at e y is q.message.rest q.words.rest q.send.message.rest place free positive few_older done_is maker (wants_none h s c e.body stood.bodies (sym body_is) plain) in
+        let same : becomes (raw_of h) (Going (plain_frame y place ∷ frame_at f.next q.words.rest f ∷ callers_of h r.view.older))
+            ≡ raw_after (raw_of h) (heap_words mc.memory) (record { top = mc.regs 6; next = h.next }) (Going (frame_of c place (shape_of false block h c mc) ∷ frame_at f.next q.words.rest f ∷ callers_of h r.view.older)) (h.cost + h.machine.regs 3 + 0) = λ i. record {
+          maps = h.maps;
+          mem = sym heap_same i;
+          heap = record { top = sym top_same i; next = h.next };
+          threads = slice_set (raw_of h).threads h.current (Going (record { body = body_of_it i; next = 0; receiver = sym receiver_is i; holder = sym holder_is i; outer = sym outer_is i; context = 0; mark = place; locals = sym words_are i; pending = [] } ∷ frame_at f.next q.words.rest f ∷ callers_of h r.view.older));
+          current = h.current;
+          steps = h.steps + h.machine.regs 2 + 1;
+          cost = (let k : h.cost + h.machine.regs 3 ≡ h.cost + h.machine.regs 3 + 0 = omega arith in k) i;
+        } in
+        subst (λ (w : Raw). RawFollows z w (step s) []) same raw
+    by_kind true owner keep =
+        let map = h.references.contexts in
+        let ws = y.arguments ++ y.initial in
+        let laid_words = cell_of true block h c mc in
+        let mem = heap_words (laid mc laid_words).memory in
+        let fits : mc.regs 6 + 4 * length laid_words ≤ 0x20000000 + 46137344 = cell_room true laid_words (mc.regs 6) count h c same_count (omega (arith, words_long h c mc)) top_same top_within keep in
+        let framed = framed_in_heap laid_words mc.memory (mc.regs 6) kept_called.within top_aligned top_low fits in
+        let number : numbered map ≡ 4 * map = omega (arith, keep.small) in
+        let are : laid_words ≡ words_of (Context map y.outer place y.receiver ws) = λ i. number i ∷ outer_is i ∷ place ∷ receiver_is i ∷ words_are i in
+        let framed2 : Framed (raw_of h).mem mem (raw_of h).heap.top (words_of (Context map y.outer place y.receiver ws)) =
+        subst (λ (w : Words). Framed w mem (raw_of h).heap.top (words_of (Context map y.outer place y.receiver ws))) heap_same
+        (subst (λ (t : ℕ). Framed (heap_words mc.memory) mem t (words_of (Context map y.outer place y.receiver ws))) top_same
+        (subst (λ (us : List ℕ). Framed (heap_words mc.memory) mem (mc.regs 6) us) are framed)) in
+        let room : h.machine.regs 6 + 4 * (4 + length ws) ≤ 0x20000000 + 46137344 = omega (arith, keep.room, same_count, long) in
+        let paid : h.cost + h.machine.regs 3 + (4 + length ws) ≤ 4194304 = omega (arith, keep.paid, same_count, long) in
+        let body_same : length e.arguments ≡ length (body_of s e.body).arguments =
+        arguments ∙ ap (λ bs. length (body_in bs c).arguments) stood.bodies ∙ ap (λ k. length (body_in s.bodies k).arguments) (sym body_is) in
+        let raw =
+        context_enters (raw_of h) s z stood.stands q.sender q.older f (callers_of h r.view.older) node q.is_at e y is q.message.rest q.words.rest q.send.message.rest place free positive few_older done_is maker map mem (wants_one h s c e.body stood.bodies (sym body_is) owner)
+        body_same framed2 room keep.mapped paid in
+        let same : raw_after (raw_of h) mem (record { top = h.machine.regs 6 + 4 * (4 + length ws); next = h.next }) (Going (context_frame y (h.machine.regs 6 + 1) place ∷ frame_at f.next q.words.rest f ∷ callers_of h r.view.older)) (h.cost + h.machine.regs 3 + (4 + length ws))
+            ≡ raw_after (raw_of h) mem (record { top = top_then true mc count; next = h.next }) (Going (frame_of c place (shape_of true block h c mc) ∷ frame_at f.next q.words.rest f ∷ callers_of h r.view.older)) (h.cost + h.machine.regs 3 + (4 + count)) = λ i. record {
+          maps = h.maps;
+          mem = mem;
+          heap = record { top = (let k : h.machine.regs 6 + 4 * (4 + length ws) ≡ mc.regs 6 + 4 * (4 + count) = omega (arith, top_same, long) in k) i; next = h.next };
+          threads = slice_set (raw_of h).threads h.current (Going (record { body = body_of_it i; next = 0; receiver = sym receiver_is i; holder = sym holder_is i; outer = sym outer_is i; context = ap (λ t. t + 1) (sym top_same) i; mark = place; locals = []; pending = [] } ∷ frame_at f.next q.words.rest f ∷ callers_of h r.view.older));
+          current = h.current;
+          steps = h.steps + h.machine.regs 2 + 1;
+          cost = ap (λ k. h.cost + h.machine.regs 3 + (4 + k)) long i;
+        } in
+        subst (λ (w : Raw). RawFollows z w (step s) []) same raw
+
+    pub entry_steps : CanStart block mc → DoesStep z (calls goal cost at holder (with_machine h q.asks.to)) s
+    entry_steps start = entered_step start (by_kind owns owned keeps)
