@@ -98,7 +98,7 @@ pub wants_one : (h : Host) (s : State) (b y : ℕ) → h.bodies ≡ s.bodies →
 wants_one h s b y e same owns =
     any_same (body_in s.bodies y).nodes ∙ ap (λ k. owns_context (body_in s.bodies k)) (sym same) ∙ ap (λ bs. owns_context (body_in bs b)) (sym e) ∙ owns
 
-registers_long : (f : ℕ → ℕ) (r n : ℕ) → length (registers_from f r n) ≡ n
+pub registers_long : (f : ℕ → ℕ) (r n : ℕ) → length (registers_from f r n) ≡ n
 registers_long f r zero = refl
 registers_long f r (suc n) = ap suc (registers_long f (r + 1) n)
 

@@ -11,3 +11,4 @@ pub mod Asked
 pub mod Laid
 pub mod Words
 pub mod Entered
+pub mod Methods
