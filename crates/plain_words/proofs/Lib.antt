@@ -14,3 +14,6 @@ pub mod Shown
 pub mod Growing
 pub mod Emitted
 pub mod Insns
+pub mod Making
+pub mod Entering
+pub mod ByKind

@@ -22,7 +22,7 @@ use Rattle.plain_words.proofs.Straight.{straight, all_straight, CanAll, goes_str
 use Rattle.plain_words.proofs.Placing.{placed, two_parts}
 
 -- The oldest frame that is held may be saved in its stack: the code stays.
-at_apart : (is : List Insn) (old new : Words) (p : ℕ) → ((b : ℕ) → b < 0x20000000 → word_at new b ≡ word_at old b) → p + 4 * length is ≤ 0x20000000 → At old p is → At new p is
+pub at_apart : (is : List Insn) (old new : Words) (p : ℕ) → ((b : ℕ) → b < 0x20000000 → word_at new b ≡ word_at old b) → p + 4 * length is ≤ 0x20000000 → At old p is → At new p is
 at_apart [] old new p same low h = tt
 at_apart (i ∷ is) old new p same low h = (ap instruction (same p (omega arith)) ∙ h.0, at_apart is old new (p + 4) same (omega arith) h.1)
 
@@ -31,19 +31,19 @@ room_spares : (full : Bool) (memory : Words) (at : ℕ) (held : List (ℕ → �
 room_spares true memory at held b whole place low = let p = place refl in (framed memory (oldest_at at held) (words_of (oldest held)) whole p).others b (inl (omega (arith, p.1)))
 room_spares false memory at held b whole place low = refl
 
-full_six : (held : List (ℕ → ℕ)) → is_full held ≡ true → 6 ≤ length held
+pub full_six : (held : List (ℕ → ℕ)) → is_full held ≡ true → 6 ≤ length held
 full_six held h = grind arith
 
 -- the registers of the new frame
-abbrev saved : MachineState → ℕ → MachineState
+abbrev pub saved : MachineState → ℕ → MachineState
 saved m bytes = effect (Three ops.Save 14 14 (Imm (negsuc (bytes - 1)))) m
 
 -- the arguments are kept
-stores_straight : (register slot n : ℕ) → all_straight (argument_stores register slot n) ≡ true
+pub stores_straight : (register slot n : ℕ) → all_straight (argument_stores register slot n) ≡ true
 stores_straight register slot zero = refl
 stores_straight register slot (suc n) = stores_straight (register + 1) (slot + 1) n
 
-initials_straight : (slot : ℕ) (ws : List ℕ) → all_straight (initial_stores slot ws) ≡ true
+pub initials_straight : (slot : ℕ) (ws : List ℕ) → all_straight (initial_stores slot ws) ≡ true
 initials_straight slot [] = refl
 initials_straight slot (w ∷ ws) = initials_straight (slot + 1) ws
 
@@ -56,7 +56,7 @@ pub record Kept (t to : MachineState) (memory : Words) : Type 0 where
   pub regs : to.regs ≡ t.regs
   pub older : to.older ≡ t.older
 
-keeps : (n register slot : ℕ) (t : MachineState) (sp words : ℕ) → t.regs 14 ≡ sp → HasFrame sp words → 27 + slot + n ≤ words
+pub keeps : (n register slot : ℕ) (t : MachineState) (sp words : ℕ) → t.regs 14 ≡ sp → HasFrame sp words → 27 + slot + n ≤ words
     → CanAll (argument_stores register slot n) t × Kept t (straight (argument_stores register slot n) t) (with_words t.memory (sp + local_offset slot) (registers_from t.regs register n))
 keeps zero register slot t sp words e f room = (tt, record { memory_is = refl; regs = refl; older = refl })
 keeps (suc n) register slot t sp words e f room =
@@ -80,7 +80,7 @@ pub record KeptBut (t to : MachineState) (memory : Words) : Type 0 where
   pub regs : (r : ℕ) → nat_eq r 1 ≡ false → to.regs r ≡ t.regs r
   pub older : to.older ≡ t.older
 
-fills : (ws : List ℕ) (slot : ℕ) (t : MachineState) (sp words : ℕ) → t.regs 14 ≡ sp → HasFrame sp words → 27 + slot + length ws ≤ words
+pub fills : (ws : List ℕ) (slot : ℕ) (t : MachineState) (sp words : ℕ) → t.regs 14 ≡ sp → HasFrame sp words → 27 + slot + length ws ≤ words
     → CanAll (initial_stores slot ws) t × KeptBut t (straight (initial_stores slot ws) t) (with_words t.memory (sp + local_offset slot) ws)
 fills [] slot t sp words e f room = (tt, record { memory_is = refl; regs = λ r h. refl; older = refl })
 fills (w ∷ ws) slot t sp words e f room =
@@ -101,18 +101,18 @@ fills (w ∷ ws) slot t sp words e f room =
     )
 
 -- Words put behind one another.
-with_words_both : (memory : Words) (at : ℕ) (xs ys : List ℕ) (to : ℕ) → to ≡ at + 4 * length xs → with_words (with_words memory at xs) to ys ≡ with_words memory at (xs ++ ys)
+pub with_words_both : (memory : Words) (at : ℕ) (xs ys : List ℕ) (to : ℕ) → to ≡ at + 4 * length xs → with_words (with_words memory at xs) to ys ≡ with_words memory at (xs ++ ys)
 with_words_both memory at [] ys to e = ap (λ a. with_words memory a ys) (omega (arith, e))
 with_words_both memory at (x ∷ xs) ys to e = with_words_both (with_word memory at x) (at + 4) xs ys to (omega (arith, e))
 
-from_to : (n r s : ℕ) (f g : ℕ → ℕ) → ((j : ℕ) → j < n → f (r + j) ≡ g (s + j)) → registers_from f r n ≡ registers_from g s n
+pub from_to : (n r s : ℕ) (f g : ℕ → ℕ) → ((j : ℕ) → j < n → f (r + j) ≡ g (s + j)) → registers_from f r n ≡ registers_from g s n
 from_to zero r s f g h = refl
 from_to (suc n) r s f g h =
     let first : f r ≡ g s = ap f (omega arith) ∙ h 0 (omega arith) ∙ ap g (omega arith) in
     let rest = from_to n (r + 1) (s + 1) f g (λ j lt. ap f (omega arith) ∙ h (suc j) (omega arith) ∙ ap g (omega arith)) in
     ap (λ w. w ∷ registers_from f (r + 1) n) first ∙ ap (λ ws. g s ∷ ws) rest
 
-registers_long : (f : ℕ → ℕ) (r n : ℕ) → length (registers_from f r n) ≡ n
+pub registers_long : (f : ℕ → ℕ) (r n : ℕ) → length (registers_from f r n) ≡ n
 registers_long f r zero = refl
 registers_long f r (suc n) = ap suc (registers_long f (r + 1) n)
 
@@ -188,7 +188,7 @@ by_holder x p words s1 a1 a2 at false e test first =
       older = refl;
     }
 
-find_holder : (x : MachineState) (p words : ℕ) → StandsAt x p → IsCodeFrom p (suc (suc (suc words))) → At x.memory p holder_code → (b : Bool) → nat_eq (x.regs 5) 0 ≡ b → HolderFound x (p + 12)
+pub find_holder : (x : MachineState) (p words : ℕ) → StandsAt x p → IsCodeFrom p (suc (suc (suc words))) → At x.memory p holder_code → (b : Bool) → nat_eq (x.regs 5) 0 ≡ b → HolderFound x (p + 12)
 find_holder x p words s0 a0 at b e =
     let y = tested x in
     let s1 : StandsAt y (p + 4) = on x.pc x.npc p (p + 4) s0 (omega (arith, a0.to)) in
@@ -202,7 +202,7 @@ find_holder x p words s0 a0 at b e =
 abbrev front_code : ℕ → List Insn
 front_code arguments = store 5 14 holder_offset ∷ move 16 0 ∷ move 17 0 ∷ argument_stores 25 0 arguments
 
-abbrev last_code : List Insn
+abbrev pub last_code : List Insn
 last_code = plus 4 1 ∷ count ∷ []
 
 pub record Filled (t to : MachineState) (memory : Words) : Type 0 where
@@ -271,7 +271,7 @@ kept_straight arguments initial =
     (both_straight (initial_stores arguments initial) last_code (initials_straight arguments initial) refl)
 
 -- the new frame lies so many bytes below
-below_by : (place bytes sp : ℕ) → sp ≡ place + bytes → 0 < bytes → sp < 0x60000000 → add sp (2 ^ 32 - (bytes - 1 + 1)) ≡ place
+pub below_by : (place bytes sp : ℕ) → sp ≡ place + bytes → 0 < bytes → sp < 0x60000000 → add sp (2 ^ 32 - (bytes - 1 + 1)) ≡ place
 below_by place bytes sp e h low = omega arith
 
 arrived : (m t : MachineState) (bytes j : ℕ) → ((r : ℕ) → nat_eq r 5 ≡ false → t.regs r ≡ (saved m bytes).regs r) → j < 5 → t.regs (25 + j) ≡ m.regs (9 + j)

@@ -227,13 +227,17 @@ context_head map = set_word 1 map ++ (store 1 6 0 ∷ store 16 6 4 ∷ store 14 
 abbrev pub context_end : ℕ → List Insn
 context_end words = refer 17 ∷ plus 6 (4 * words) ∷ plus 3 words ∷ plus 4 1 ∷ count ∷ []
 
--- what is kept of the entry of an activation, by whether it has a context and is a block's
+-- What is kept of the entry of an activation, by whether it has a context and is a block's.
+abbrev pub kept_first : Bool → ℕ → ℕ → List Insn
+kept_first false map arguments = move 17 0 ∷ argument_stores 25 0 arguments
+kept_first true map arguments = context_head map ++ cell_arguments 25 0 arguments
+
+abbrev pub kept_last : Bool → ℕ → List ℕ → List Insn
+kept_last false arguments initial = initial_stores arguments initial ++ (plus 4 1 ∷ count ∷ [])
+kept_last true arguments initial = cell_initials arguments initial ++ context_end (4 + arguments + length initial)
+
 abbrev pub entry_kept : Bool → Bool → ℕ → ℕ → List ℕ → List Insn
-entry_kept false block map arguments initial =
-    (store 5 14 holder_offset ∷ no_maker block ++ (move 17 0 ∷ argument_stores 25 0 arguments)) ++ (initial_stores arguments initial ++ (plus 4 1 ∷ count ∷ []))
-entry_kept true block map arguments initial =
-    (store 5 14 holder_offset ∷ no_maker block ++ (context_head map ++ cell_arguments 25 0 arguments))
-    ++ (cell_initials arguments initial ++ context_end (4 + arguments + length initial))
+entry_kept owns block map arguments initial = (store 5 14 holder_offset ∷ no_maker block ++ kept_first owns map arguments) ++ kept_last owns arguments initial
 
 -- the words of an entry; those of a method without a context are `method_code`
 abbrev pub entered_code : Bool → Bool → ℕ → ℕ → ℕ → List ℕ → List Insn

@@ -3,11 +3,14 @@ ghost use Rattle.std.specs.Prelude.{◌≡◌, List, ◌++◌, true, false, leng
 ghost use Rattle.self_terms.specs.Words.{IsSmall, word_of};
 ghost use Rattle.sparc_store.specs.Words.{word_at};
 ghost use Rattle.sparc_machine.specs.State.{MachineState};
+ghost use Rattle.sparc_machine.specs.Alu.{add};
 ghost use Rattle.frame_walk.specs.Places.{pending_offset};
-ghost use Rattle.plain_words.specs.Code.{constant_code, self_code, drop_code, read_code, store_code, send_code, implied_code, answered_code, is_sum, sum_code, primitive_code, non_local_code, return_code, method_code};
-ghost use Rattle.plain_words.specs.Units.{unit_code};
+ghost use Rattle.plain_words.specs.Code.{constant_code, self_code, drop_code, read_code, store_code, send_code, implied_code, answered_code, is_sum, sum_code, primitive_code, non_local_code, return_code, block_code, method_code, entered_code};
+ghost use Rattle.self_terms.specs.declared.bodies.Body.{Body};
+ghost use Rattle.plain_words.specs.declared.references.References.{References};
+ghost use Rattle.plain_words.specs.Units.{owns_context, of_block, numbered, frame_words, initial_words, entry_code};
 ghost use Rattle.plain_words.specs.Showing.{PendedShows, LeftShows};
-ghost use Rattle.plain_words.specs.Moves.{IsReady, Does, pended, HasLocal, local_address, assigned, Asks, handed_receiver, first_handed, handed_argument, summed, overflows, Ends, CanReturn, HasContext, unmarked, CanEnter, Enters, entered_memory};
+ghost use Rattle.plain_words.specs.Moves.{IsReady, Does, pended, HasLocal, local_address, assigned, Asks, handed_receiver, first_handed, handed_argument, summed, overflows, Ends, CanReturn, HasContext, unmarked, HasRoom, cost_left, block_made, Makes, IsFull, CanEnter, Enters, entered_memory, CanBegin, Begins, begun_memory};
 
 /// The words of a constant pend it.
 pub fn constants_are_pended()
@@ -75,9 +78,33 @@ pub fn activations_return()
     ensures { (m : MachineState) (p words : ℕ) (owns : Bool) (locals k : ℕ) → IsReady m p words (return_code owns locals k) → 27 + locals + k < words → HasContext m owns → CanReturn m → Ends m (unmarked m owns) (word_at m.memory (m.regs 14 + pending_offset locals k)) }
 {}
 
+/// Those of a block literal put a block at the heap's top and pend it, where so much is left of the plain cost; else they come to service 8.
+pub fn blocks_are_made()
+    ensures made { (m : MachineState) (p words locals k map body : ℕ) → IsReady m p words (block_code locals k map body) → 27 + locals + k < words → HasRoom (m.regs 6) 4 → add (m.regs 3) 4 ≤ cost_left m → Makes m p 4 (block_code locals k map body) (block_made m locals k map body) }
+    ensures full { (m : MachineState) (p words locals k map body : ℕ) → IsReady m p words (block_code locals k map body) → cost_left m < add (m.regs 3) 4 → IsFull m (p + 48) }
+{}
+
 /// Those before a method's first node lead into it: its frame is made and filled, and the activation and the step are counted.
 pub fn methods_are_entered()
     ensures { (m : MachineState) (p words arguments : ℕ) (initial : List ℕ) (c : CanEnter m p words arguments initial) → Enters m (p + 4 * length (method_code (4 * words) arguments initial)) c.place (entered_memory m c.place arguments initial) }
+{}
+
+/// Those before the first node of a method whose activations have contexts lead into it: the frame keeps the holder, and a context with the
+/// arguments and locals is put at the heap's top.
+pub fn methods_with_contexts_are_entered()
+    ensures { (m : MachineState) (p words map arguments : ℕ) (initial : List ℕ) (c : CanBegin true false m p words map arguments initial) → Begins true false m (p + 4 * length (entered_code true false (4 * words) map arguments initial)) c.place (arguments + length initial) (begun_memory true false m c.place map arguments initial) }
+{}
+
+/// Those before the first node of a block lead into it, with a context or without: the maker's context and the receiver are those of the block,
+/// and the holder that of the frame which the context's mark names.
+pub fn blocks_are_entered()
+    ensures { (owns : Bool) (m : MachineState) (p words map arguments : ℕ) (initial : List ℕ) (c : CanBegin owns true m p words map arguments initial) → Begins owns true m (p + 4 * length (entered_code owns true (4 * words) map arguments initial)) c.place (arguments + length initial) (begun_memory owns true m c.place map arguments initial) }
+{}
+
+/// The words of an entry: for a method without a context those that `methods_are_entered` speaks of, for any other body those of its kind.
+pub fn entries_have_kinds()
+    ensures method { (r : References) (b : Body) → owns_context b ≡ false → of_block b ≡ false → entry_code r b ≡ method_code (4 * frame_words b) (length b.arguments) (initial_words r b) }
+    ensures other { (r : References) (b : Body) (owns block : Bool) → owns_context b ≡ owns → of_block b ≡ block → entry_code r b ≡ entered_code owns block (4 * frame_words b) (numbered r.contexts) (length b.arguments) (initial_words r b) }
 {}
 
 /// What the frame in view shows after a word was pended, and where nothing was stored.
