@@ -1,4 +1,4 @@
--- An activation that a message begins, over any words of an entry that do what is asked of them.
+-- An activation that a message begins.
 use Rattle.std.proofs.Common.{◌≡◌, ◌≢◌, ℕ, zero, suc, ◌+◌, ◌-◌, ◌*◌, ◌%◌, ◌^◌, ◌<◌, ◌≤◌, refl, ◌∙◌, ap, sym, subst, arith, length-append}
 use Rattle.std.specs.List.{list_any}
 use Rattle.std.specs.Prelude.{Bool, true, false, if◌then◌else◌, ◌||◌, List, [], ◌∷◌, ◌++◌, length, Some, slice_get, slice_set}
@@ -39,8 +39,8 @@ use Rattle.plain_sends.specs.Sends.{IsSent}
 use Rattle.plain_sends.proofs.Resumming.{runs_as, hosted_as, threads_as}
 use Rattle.plain_sends.proofs.Serving.{set_set}
 use Rattle.plain_sends.proofs.Settling.{KeptTo, StillThere, kept_to, stays_there}
-use Rattle.plain_evaluates.specs.Entries.{CanStart, HasTop, HasRoom, CanBegin, Begins, given_maker, given_receiver, given_holder, own_context, cost_then, top_then, in_frame, begun_memory}
-use Rattle.plain_evaluates.specs.Evaluates.{EntriesBegin, CanKeep, HasSpace, IsOpen, context_words}
+use Rattle.plain_words.specs.Moves.{CanStart, HasTop, HasRoom, CanBegin, Begins, given_maker, given_receiver, given_holder, own_context, cost_then, top_then, in_frame, begun_memory}
+use Rattle.plain_evaluates.specs.Evaluates.{CanKeep, HasSpace, IsOpen, context_words}
 use Rattle.plain_evaluates.proofs.Asked.{four_others, sender_shown, machine_called, call_settles, AtEntry, at_entry}
 use Rattle.plain_evaluates.proofs.Bounds.{frame_least, initial_long, entry_few}
 use Rattle.plain_evaluates.proofs.Called.{IsCalled, place_below, place_there, place_is, place_stack}
@@ -133,7 +133,7 @@ memory_is true block h c m aligned low room high =
     let p = place_below (with_machine h m) c in
     filled_past (cell_of true block h c m) m.memory (m.regs 6) (m.regs 30) (p + 104) (given_holder block m) m.older aligned low room (omega (arith, high))
 
-module _ (words : EntriesBegin) (z : Sense) (h : Host) (s : State) (b n : ℕ) (node : Node) (sel : Selector) (r : RunsAt h b n node) (q : IsSent z h s b n node sel r) (stood : StandsFor z h s) (can : CanGo h)
+module _ (z : Sense) (h : Host) (s : State) (b n : ℕ) (node : Node) (sel : Selector) (r : RunsAt h b n node) (q : IsSent z h s b n node sel r) (stood : StandsFor z h s) (can : CanGo h)
     (c goal cost at holder : ℕ) (low : goal ≤ 1000000000) (owns block : Bool) (owned : owns_context (body_in h.bodies c) ≡ owns) (is_open : IsOpen h c at sel.args r.view.older block) where
   abbrev mc : MachineState
   mc = machine_called z h s b n node sel r q goal cost at holder
@@ -212,7 +212,7 @@ module _ (words : EntriesBegin) (z : Sense) (h : Host) (s : State) (b n : ℕ) (
       let top = has_top owns mc count h c same_count top_same top_aligned top_low keeps in
       let start2 : CanStart (of_block x) mc = subst (λ (k : Bool). CanStart k mc) (sym is_open.kind) start in
       let top2 : HasTop (owns_context x) mc count = subst (λ (o : Bool). HasTop o mc count) (sym owned) top in
-      let g = leads_in words hm b n c at node entry_before.called start2 top2 in
+      let g = leads_in hm b n c at node entry_before.called start2 top2 in
       subst (λ (o : Bool). Leads o block) owned (subst (λ (k : Bool). Leads (owns_context x) k) is_open.kind g)
 
   shape_long : length shape.locals ≡ frame_locals x

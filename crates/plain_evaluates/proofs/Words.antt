@@ -9,10 +9,10 @@ use Rattle.frame_moves.proofs.Spared.{can_save}
 use Rattle.plain_words.specs.Units.{nodes_code, entry_code, initial_words, owns_context, of_block, numbered, frame_locals, frame_words}
 use Rattle.plain_words.specs.declared.references.References.{References}
 use Rattle.plain_words.proofs.Basics.{at_front}
+use Rattle.plain_words.proofs.Entering.{entry_begins}
 use Rattle.plain_runs.specs.Host.{Host}
 use Rattle.plain_runs.specs.Sound.{entry_frame}
-use Rattle.plain_evaluates.specs.Entries.{CanStart, HasTop, in_frame, CanBegin, Begins, begun_memory}
-use Rattle.plain_evaluates.specs.Evaluates.{EntriesBegin}
+use Rattle.plain_words.specs.Moves.{CanStart, HasTop, in_frame, CanBegin, Begins, begun_memory}
 use Rattle.plain_evaluates.proofs.Bounds.{frame_least, initial_long}
 use Rattle.plain_evaluates.proofs.Called.{IsCalled, sender_sound, sender_stack, place_below, place_there, place_is}
 
@@ -50,13 +50,13 @@ can_begin h b n c at node q start top =
     }
 
 -- so many instructions lead into it
-pub leads_in : EntriesBegin → (h : Host) (b n c at : ℕ) (node : Node) → IsCalled h b n c at node
+pub leads_in : (h : Host) (b n c at : ℕ) (node : Node) → IsCalled h b n c at node
     → (let x = body_in h.bodies c in
     let initial = initial_words h.references x in
     CanStart (of_block x) h.machine → HasTop (owns_context x) h.machine (length x.arguments + length initial)
     → Begins (owns_context x) (of_block x) h.machine (at + 4 * length (entry_code h.references x)) (place_below h c) (length x.arguments + length initial)
     (begun_memory (owns_context x) (of_block x) h.machine (place_below h c) (numbered h.references.contexts) (length x.arguments) initial))
 unfolding can_begin
-leads_in words h b n c at node q start top =
+leads_in h b n c at node q start top =
     let x = body_in h.bodies c in
-    words (owns_context x) (of_block x) h.machine at (frame_words x) (numbered h.references.contexts) (length x.arguments) (initial_words h.references x) (can_begin h b n c at node q start top)
+    entry_begins (owns_context x) (of_block x) h.machine at (frame_words x) (numbered h.references.contexts) (length x.arguments) (initial_words h.references x) (can_begin h b n c at node q start top)

@@ -13,7 +13,6 @@ use Rattle.source_model.specs.State.{State}
 use Rattle.frame_walk.specs.Places.{Frame}
 use Rattle.raw_steps.specs.Sends.{frame_at, maker_frame}
 use Rattle.raw_steps.specs.Stands.{Sense}
-use Rattle.plain_words.specs.Code.{entered_code}
 use Rattle.plain_words.specs.Showing.{viewed}
 use Rattle.plain_words.specs.Units.{owns_context, of_block, frame_locals}
 use Rattle.plain_runs.specs.Host.{Host, raw_of}
@@ -23,12 +22,6 @@ use Rattle.plain_runs.specs.Course.{with_machine, CanGo}
 use Rattle.plain_runs.specs.Services.{calls}
 use Rattle.plain_steps.specs.Steps.{StandsFor, DoesStep}
 use Rattle.plain_sends.specs.Sends.{IsSent, met_of}
-use Rattle.plain_evaluates.specs.Entries.{CanBegin, Begins, begun_memory}
-
--- what the words of entries are asked to do
-abbrev pub EntriesBegin : Type 0
-EntriesBegin = (owns block : Bool) (m : MachineState) (p words map arguments : ℕ) (initial : List ℕ) (c : CanBegin owns block m p words map arguments initial)
-    → Begins owns block m (p + 4 * length (entered_code owns block (4 * words) map arguments initial)) c.place (arguments + length initial) (begun_memory owns block m c.place map arguments initial)
 
 -- the words of a context of an activation of a body
 abbrev pub context_words : Host → ℕ → ℕ

@@ -1,3 +1,2 @@
 -- Activations that plain code enters, with contexts and without, of methods and of blocks.
-pub mod Entries
 pub mod Evaluates

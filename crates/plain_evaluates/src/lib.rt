@@ -7,4 +7,4 @@
 
 mod laws;
 
-pub use laws::{methods_are_entered};
+pub use laws::{blocks_are_entered, methods_are_entered};
