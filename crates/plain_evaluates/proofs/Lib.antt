@@ -12,3 +12,5 @@ pub mod Laid
 pub mod Words
 pub mod Entered
 pub mod Methods
+pub mod Makers
+pub mod Blocks
