@@ -41,7 +41,7 @@ use Rattle.plain_evaluates.proofs.Methods.{words_given, many_given}
 use Rattle.plain_evaluates.proofs.Views.{sender_seen}
 
 -- a word of four that a reference names
-in_cell : (w d : ℕ) → IsContext w 0 → d % 4 ≡ 3 → d < 15 → InHeap (w + d)
+pub in_cell : (w d : ℕ) → IsContext w 0 → d % 4 ≡ 3 → d < 15 → InHeap (w + d)
 in_cell w d c whole low = record { aligned = omega (arith, c.tagged, whole); above = omega (arith, c.from); below = omega (arith, c.to, low) }
 
 -- What the words of the entry read of the block.

@@ -28,7 +28,7 @@ pub record IsAbove (sp entry : ℕ) (f : Frame) : Type 0 where
   pub stack : f.mark / 0x02000000 ≡ entry / 0x02000000
 
 -- so does each of these that are laid
-all_above : (descs : ℕ → Descriptor) (asked : Asked) (entry end : ℕ) (memory : Words) (n sp : ℕ) (w : Window) (pc : ℕ) (held : List Window) → Frames descs asked → AreLaid asked entry end memory n sp w pc held
+pub all_above : (descs : ℕ → Descriptor) (asked : Asked) (entry end : ℕ) (memory : Words) (n sp : ℕ) (w : Window) (pc : ℕ) (held : List Window) → Frames descs asked → AreLaid asked entry end memory n sp w pc held
     → (j : ℕ) (f : Frame) → slice_get (activations descs memory n sp w pc held) j ≡ Some f → IsAbove sp entry f
 unfolding activations AreLaid
 all_above descs asked entry end memory zero sp w pc held all laid j f e = absurd (cc)
@@ -51,7 +51,7 @@ pub record IsGoing (h : Host) (from : ℕ) (ss : List Status) (j : ℕ) (frames 
 going_is : (a b : List Frame) → Some (Going a) ≡ Some (Going b) → b ≡ a
 going_is a b e = cc
 
-going : (h : Host) (from : ℕ) (ss : List Status) (j : ℕ) (frames : List Frame) → slice_get (threads_from h from ss) j ≡ Some (Going frames) → IsGoing h from ss j frames
+pub going : (h : Host) (from : ℕ) (ss : List Status) (j : ℕ) (frames : List Frame) → slice_get (threads_from h from ss) j ≡ Some (Going frames) → IsGoing h from ss j frames
 going h from [] j frames e = absurd (cc)
 going h from (Waiting sp pc count ∷ ss) zero frames e = record {
   sp = sp;
@@ -70,13 +70,13 @@ first_or_later : (v : Frame) (fs : List Frame) (sp entry : ℕ) → sp ≤ v.mar
 first_or_later v fs sp entry here later zero f e = omega (arith, here, ap (λ (y : Frame). y.mark) (some_is v f e))
 first_or_later v fs sp entry here later (suc j) f e = (later j f e).from
 
-apart : (a b : ℕ) → entry_frame a / 0x02000000 ≡ entry_frame b / 0x02000000 → a ≡ b
+pub apart : (a b : ℕ) → entry_frame a / 0x02000000 ≡ entry_frame b / 0x02000000 → a ≡ b
 apart a b e = omega (arith, e)
 
-is_current : (a b : ℕ) → a ≡ b → (0 + a == b) ≡ true
+pub is_current : (a b : ℕ) → a ≡ b → (0 + a == b) ≡ true
 is_current a b e = grind (arith, common_steps)
 
-not_current : (a b : ℕ) → a ≢ b → (0 + a == b) ≡ false
+pub not_current : (a b : ℕ) → a ≢ b → (0 + a == b) ≡ false
 not_current a b e = grind (arith, common_steps)
 
 -- a place below the one in view, in its stack, is no frame's mark

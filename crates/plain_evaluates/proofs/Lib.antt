@@ -14,3 +14,4 @@ pub mod Entered
 pub mod Methods
 pub mod Makers
 pub mod Blocks
+pub mod Marks
