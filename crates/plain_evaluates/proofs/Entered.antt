@@ -85,6 +85,15 @@ as_many wants z at (a ∷ all) (f ∷ fs) h = ap suc (as_many wants z at all fs 
 as_many wants z at [] (f ∷ fs) h = absurd h
 as_many wants z at (a ∷ all) [] h = absurd h
 
+-- as many activations wait behind the sender's in the source as in words
+pub many_older : (z : Sense) (h : Host) (s : State) (b n : ℕ) (node : Node) (sel : Selector) (r : RunsAt h b n node) (q : IsSent z h s b n node sel r) → StandsFor z h s → length q.older ≡ r.view.older
+many_older z h s b n node sel r q stood =
+    let m = h.machine in
+    let f = viewed m b n (frame_locals (body_in h.bodies b)) (depth (body_in h.bodies b).nodes n) in
+    let fs = callers_of h r.view.older in
+    let all = current_all (raw_of h) s z stood.stands q.sender q.older f fs node q.is_at in
+    as_many (makes_blocks s) z s.current q.older fs all.2 ∙ activations_long (descriptor_at h) m.memory r.view.older (m.regs 30) (frame_before m.memory (m.regs 30) m.older) (m.regs 31 + 8) (but_first m.older)
+
 -- Whether a body has a block literal, in words and in the source.
 literal_same : (n : Node) → by_source n ≡ by_words n
 literal_same (nodes.BlockLit b) = refl
@@ -314,13 +323,6 @@ module _ (z : Sense) (h : Host) (s : State) (b n : ℕ) (node : Node) (sel : Sel
         RawFollows z (raw_after (raw_of h) (heap_words (laid mc (cell_of o block h c mc)).memory) (record { top = top_then o mc count; next = h.next })
         (Going (frame_of c place (shape_of o block h c mc) ∷ frame_at f.next q.words.rest f ∷ callers_of h r.view.older)) (h.cost + h.machine.regs 3 + cost_more o count)) (step s) []
 
-    many : length q.older ≡ r.view.older
-    many =
-        let m = h.machine in
-        let fs = callers_of h r.view.older in
-        let all = current_all (raw_of h) s z stood.stands q.sender q.older f fs node q.is_at in
-        as_many (makes_blocks s) z s.current q.older fs all.2 ∙ activations_long (descriptor_at h) m.memory r.view.older (m.regs 30) (frame_before m.memory (m.regs 30) m.older) (m.regs 31 + 8) (but_first m.older)
-
     free : IsFree (raw_of h).threads place
     free =
         let least = frame_least x in
@@ -331,7 +333,7 @@ module _ (z : Sense) (h : Host) (s : State) (b n : ℕ) (node : Node) (sel : Sel
     positive bad = let there = place_there hm b n c at node entry_before.called in absurd (omega (arith, bad, there.1))
 
     few_older : suc (length q.older) < 4096
-    few_older = let a = many in let b = is_open.few in omega arith
+    few_older = let a = many_older z h s b n node sel r q stood in let b = is_open.few in omega arith
 
     body_of_it : y.body ≡ c
     body_of_it = is.body ∙ body_is

@@ -15,3 +15,4 @@ pub mod Methods
 pub mod Makers
 pub mod Blocks
 pub mod Marks
+pub mod Refused
