@@ -1,6 +1,6 @@
 -- A block that a message is for is entered, where it meets the block's own method.
-use Rattle.std.proofs.Common.{◌≡◌, ℕ, suc, ◌+◌, ◌-◌, ◌*◌, ◌%◌, ◌<◌, ◌≤◌, refl, ◌∙◌, ap, sym, subst, arith}
-use Rattle.std.specs.Prelude.{true, List, [], ◌∷◌, ◌++◌, length, Some, slice_get}
+use Rattle.std.proofs.Common.{◌≡◌, ℕ, suc, ◌+◌, ◌%◌, ◌<◌, ◌≤◌, refl, ◌∙◌, ap, sym, subst, arith}
+use Rattle.std.specs.Prelude.{true, List, ◌∷◌, Some, slice_get}
 use Rattle.self_terms.specs.declared.nodes.Node.{Node}
 use Rattle.self_terms.specs.declared.nodes.Selector.{Selector}
 use Rattle.self_terms.specs.declared.values.BodyId.{BodyId}
@@ -22,7 +22,7 @@ use Rattle.raw_steps.proofs.Evaluating.{block_evaluates}
 use Rattle.plain_words.specs.Moves.{IsContext, IsEvaluated, given_holder}
 use Rattle.plain_words.specs.Showing.{viewed}
 use Rattle.plain_words.specs.Units.{initial_words, owns_context, frame_locals}
-use Rattle.plain_runs.specs.Host.{Host, raw_of, heap_words, descriptor_at}
+use Rattle.plain_runs.specs.Host.{Host, raw_of, descriptor_at}
 use Rattle.plain_runs.specs.Sound.{RunsAt, IsCaller, callers_of, entry_frame, ending_stub}
 use Rattle.plain_runs.specs.Course.{with_machine, CanGo}
 use Rattle.plain_runs.proofs.Working.{callers_have_room}
@@ -36,7 +36,7 @@ use Rattle.plain_evaluates.proofs.Entered.{entry_steps}
 use Rattle.plain_evaluates.proofs.Heaped.{InHeap, same_word}
 use Rattle.plain_evaluates.proofs.Initials.{initials_are}
 use Rattle.plain_evaluates.proofs.Inside.{sender_frame}
-use Rattle.plain_evaluates.proofs.Makers.{Holds, all_hold, marked_there, HasWords, block_there}
+use Rattle.plain_evaluates.proofs.Makers.{Holds, all_hold, marked_there, block_there}
 use Rattle.plain_evaluates.proofs.Methods.{words_given, many_given}
 use Rattle.plain_evaluates.proofs.Views.{sender_seen}
 

@@ -7,7 +7,7 @@ use Rattle.self_terms.specs.declared.bodies.Body.{Body}
 use Rattle.self_terms.specs.declared.bodies.Local.{Local}
 use Rattle.self_terms.specs.declared.nodes.Node.{Node}
 use Rattle.self_terms.specs.Depths.{grown, depth, depth_from}
-use Rattle.plain_words.specs.Code.{argument_stores, initial_stores, cell_arguments, cell_initials, context_head, context_end, plus, count, refer, store, load, move, set_word, no_maker, start_code, entry_kept, entered_code}
+use Rattle.plain_words.specs.Code.{argument_stores, initial_stores, cell_arguments, cell_initials, context_head, context_end, plus, count, store, move, no_maker, start_code, entry_kept, entered_code}
 use Rattle.plain_words.specs.Translating.{CanTranslate}
 use Rattle.plain_words.specs.declared.references.References.{References}
 use Rattle.plain_words.specs.Units.{larger, deepest, datum_word, initial_words, entry_code, owns_context, of_block, numbered, frame_locals, frame_words}

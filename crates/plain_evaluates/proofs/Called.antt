@@ -1,6 +1,6 @@
 -- An activation is about to begin.
 use Rattle.std.proofs.Common.{◌≡◌, ℕ, suc, ◌+◌, ◌-◌, ◌*◌, ◌/◌, ◌%◌, ◌<◌, ◌≤◌, ◌∙◌, arith}
-use Rattle.std.specs.Prelude.{List, length}
+use Rattle.std.specs.Prelude.{List}
 use Rattle.self_terms.specs.declared.nodes.Node.{Node}
 use Rattle.sparc_store.specs.Words.{Words, HasFrame}
 use Rattle.sparc_store.specs.Windows.{Frame as Window, IsPlace, kept, frame_before, but_first}
@@ -73,4 +73,3 @@ place_stack h b n c at node q =
     let there = place_there h b n c at node q in
     one_stack (place_below h c) (frame_words (body_in h.bodies c)) (m.regs 14) there.3 (place_is h b n c at node q)
     ∙ same_stack (descriptor_at h) (IsCaller h) (entry_frame h.current) ending_stub m.memory (suc q.view.older) (m.regs 14) (kept m.regs) (m.regs 15 + 8) m.older (callers_have_room h q.runs) (sender_laid h b n c at node q)
-

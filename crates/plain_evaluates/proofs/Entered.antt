@@ -1,7 +1,7 @@
 -- An activation that a message begins.
-use Rattle.std.proofs.Common.{◌≡◌, ◌≢◌, ℕ, zero, suc, ◌+◌, ◌-◌, ◌*◌, ◌%◌, ◌^◌, ◌<◌, ◌≤◌, refl, ◌∙◌, ap, sym, subst, arith, length-append}
+use Rattle.std.proofs.Common.{◌≡◌, ◌≢◌, ℕ, zero, suc, ◌+◌, ◌-◌, ◌*◌, ◌%◌, ◌<◌, ◌≤◌, refl, ◌∙◌, ap, sym, subst, arith, length-append}
 use Rattle.std.specs.List.{list_any}
-use Rattle.std.specs.Prelude.{Bool, true, false, if◌then◌else◌, ◌||◌, List, [], ◌∷◌, ◌++◌, length, Some, slice_get, slice_set}
+use Rattle.std.specs.Prelude.{Bool, true, false, ◌||◌, List, [], ◌∷◌, ◌++◌, length, slice_set}
 use Rattle.object_maps.specs.declared.layout.Heap.{Heap}
 use Rattle.self_terms.specs.declared.bodies.Body.{Body}
 use Rattle.self_terms.specs.declared.nodes.Node.{Node}
@@ -26,7 +26,7 @@ use Rattle.raw_steps.proofs.Calling.{plain_enters, context_enters}
 use Rattle.raw_steps.proofs.Nexts.{current_all}
 use Rattle.plain_words.specs.Moves.{registers_from}
 use Rattle.plain_words.specs.Showing.{viewed}
-use Rattle.plain_words.specs.Units.{entry_code, initial_words, owns_context, of_block, numbered, frame_locals, frame_words, is_block_literal as by_words}
+use Rattle.plain_words.specs.Units.{entry_code, initial_words, owns_context, of_block, numbered, frame_locals, is_block_literal as by_words}
 use Rattle.plain_runs.specs.Host.{Host, seen, threads_from, raw_of, heap_words, descriptor_at}
 use Rattle.plain_runs.specs.Sound.{RunsAt, callers_of}
 use Rattle.plain_runs.specs.Course.{with_machine, CanGo}
@@ -39,11 +39,11 @@ use Rattle.plain_sends.specs.Sends.{IsSent}
 use Rattle.plain_sends.proofs.Resumming.{runs_as, hosted_as, threads_as}
 use Rattle.plain_sends.proofs.Serving.{set_set}
 use Rattle.plain_sends.proofs.Settling.{KeptTo, StillThere, kept_to, stays_there}
-use Rattle.plain_words.specs.Moves.{CanStart, HasTop, HasRoom, CanBegin, Begins, given_maker, given_receiver, given_holder, own_context, cost_then, top_then, in_frame, begun_memory}
-use Rattle.plain_evaluates.specs.Evaluates.{CanKeep, HasSpace, IsOpen, context_words}
+use Rattle.plain_words.specs.Moves.{CanStart, HasTop, Begins, given_maker, given_receiver, given_holder, own_context, cost_then, top_then, in_frame, begun_memory}
+use Rattle.plain_evaluates.specs.Evaluates.{CanKeep, IsOpen, context_words}
 use Rattle.plain_evaluates.proofs.Asked.{four_others, sender_shown, machine_called, call_settles, AtEntry, at_entry}
 use Rattle.plain_evaluates.proofs.Bounds.{frame_least, initial_long, entry_few}
-use Rattle.plain_evaluates.proofs.Called.{IsCalled, place_below, place_there, place_is, place_stack}
+use Rattle.plain_evaluates.proofs.Called.{place_below, place_there, place_is, place_stack}
 use Rattle.plain_evaluates.proofs.Free.{free_below}
 use Rattle.plain_evaluates.proofs.Heaped.{framed_in_heap, filled_past}
 use Rattle.plain_evaluates.proofs.Inside.{sender_frame, is_inside}
@@ -348,7 +348,7 @@ module _ (z : Sense) (h : Host) (s : State) (b n : ℕ) (node : Node) (sel : Sel
     by_kind false plain keep =
         let raw = plain_enters (raw_of h) s z stood.stands q.sender q.older f (callers_of h r.view.older) node q.is_at e y is q.message.rest q.words.rest q.send.message.rest place free positive few_older done_is maker (wants_none h s c e.body stood.bodies (sym body_is) plain) in
         let same : becomes (raw_of h) (Going (plain_frame y place ∷ frame_at f.next q.words.rest f ∷ callers_of h r.view.older))
-            ≡ raw_after (raw_of h) (heap_words mc.memory) (record { top = mc.regs 6; next = h.next }) (Going (frame_of c place (shape_of false block h c mc) ∷ frame_at f.next q.words.rest f ∷ callers_of h r.view.older)) (h.cost + h.machine.regs 3 + 0) = λ i. record {
+        ≡ raw_after (raw_of h) (heap_words mc.memory) (record { top = mc.regs 6; next = h.next }) (Going (frame_of c place (shape_of false block h c mc) ∷ frame_at f.next q.words.rest f ∷ callers_of h r.view.older)) (h.cost + h.machine.regs 3 + 0) = λ i. record {
           maps = h.maps;
           mem = sym heap_same i;
           heap = record { top = sym top_same i; next = h.next };
@@ -379,7 +379,7 @@ module _ (z : Sense) (h : Host) (s : State) (b n : ℕ) (node : Node) (sel : Sel
         context_enters (raw_of h) s z stood.stands q.sender q.older f (callers_of h r.view.older) node q.is_at e y is q.message.rest q.words.rest q.send.message.rest place free positive few_older done_is maker map mem (wants_one h s c e.body stood.bodies (sym body_is) owner)
         body_same framed2 room keep.mapped paid in
         let same : raw_after (raw_of h) mem (record { top = h.machine.regs 6 + 4 * (4 + length ws); next = h.next }) (Going (context_frame y (h.machine.regs 6 + 1) place ∷ frame_at f.next q.words.rest f ∷ callers_of h r.view.older)) (h.cost + h.machine.regs 3 + (4 + length ws))
-            ≡ raw_after (raw_of h) mem (record { top = top_then true mc count; next = h.next }) (Going (frame_of c place (shape_of true block h c mc) ∷ frame_at f.next q.words.rest f ∷ callers_of h r.view.older)) (h.cost + h.machine.regs 3 + (4 + count)) = λ i. record {
+        ≡ raw_after (raw_of h) mem (record { top = top_then true mc count; next = h.next }) (Going (frame_of c place (shape_of true block h c mc) ∷ frame_at f.next q.words.rest f ∷ callers_of h r.view.older)) (h.cost + h.machine.regs 3 + (4 + count)) = λ i. record {
           maps = h.maps;
           mem = mem;
           heap = record { top = (let k : h.machine.regs 6 + 4 * (4 + length ws) ≡ mc.regs 6 + 4 * (4 + count) = omega (arith, top_same, long) in k) i; next = h.next };

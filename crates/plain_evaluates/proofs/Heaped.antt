@@ -4,7 +4,7 @@ use Rattle.std.specs.Prelude.{Bool, true, false, List, [], ◌∷◌, length, sl
 use Rattle.std.proofs.lemmas.Grind.{common_steps}
 use Rattle.sparc_store.specs.Regions.{Place, Code, Heap, Control, Stacks, Nowhere, place_of}
 use Rattle.sparc_store.specs.Words.{Words, word_at, with_word, with_frame, put_in, HasWord, IsWithin, Framed, Stored}
-use Rattle.sparc_store.specs.Windows.{Frame as Window, is_full, with_spilled, with_room, oldest, oldest_at, words_of}
+use Rattle.sparc_store.specs.Windows.{Frame as Window, is_full, with_room, oldest, oldest_at, words_of}
 use Rattle.sparc_store.proofs.Placed.{others_stay, put_there, put_stays_within}
 use Rattle.plain_words.specs.Moves.{with_words}
 use Rattle.plain_runs.specs.Host.{heap_words}

@@ -1,5 +1,5 @@
 -- The machine is at the first node of an activation that has begun.
-use Rattle.std.proofs.Common.{◌≡◌, ℕ, suc, ◌+◌, ◌-◌, ◌*◌, ◌<◌, ◌≤◌, refl, ◌∙◌, ap, sym, arith}
+use Rattle.std.proofs.Common.{◌≡◌, ℕ, suc, ◌+◌, ◌-◌, ◌*◌, ◌<◌, refl, ◌∙◌, ap, sym, arith}
 use Rattle.std.specs.Prelude.{List, [], ◌∷◌, length, Some, slice_get, slice_set}
 use Rattle.self_terms.specs.declared.nodes.Node.{Node}
 use Rattle.self_terms.specs.Depths.{taken, depth}
@@ -11,7 +11,6 @@ use Rattle.frame_walk.specs.Raw.{Going}
 use Rattle.plain_words.specs.Showing.{viewed}
 use Rattle.plain_words.specs.Units.{entry_code, owns_context, frame_locals}
 use Rattle.plain_runs.specs.Host.{Host, seen, threads_from, heap_words}
-use Rattle.plain_runs.specs.Units.{HasUnit}
 use Rattle.plain_runs.specs.Sound.{RunsAt, IsHosted, callers_of}
 use Rattle.plain_runs.specs.Course.{with_machine}
 use Rattle.plain_runs.proofs.Keeping.{unit_kept, threads_set}

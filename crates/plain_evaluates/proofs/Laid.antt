@@ -1,5 +1,5 @@
 -- Words laid at the heap's top leave frames, units and counts.
-use Rattle.std.proofs.Common.{◌≡◌, ◌⊎◌, ℕ, suc, ◌+◌, ◌*◌, ◌<◌, ◌≤◌, refl, ◌∙◌, arith, inl, inr}
+use Rattle.std.proofs.Common.{◌≡◌, ◌⊎◌, ℕ, ◌+◌, ◌*◌, ◌<◌, ◌≤◌, refl, ◌∙◌, arith, inl, inr}
 use Rattle.std.specs.Prelude.{List, [], ◌∷◌, length}
 use Rattle.sparc_store.specs.Words.{Words, word_at, with_word, IsWithin}
 use Rattle.sparc_store.proofs.Placed.{others_stay, put_stays_within}

@@ -1,6 +1,6 @@
 -- Where a block's own method is met: the words of the block and of its maker's context, and the frame that the context's mark names.
-use Rattle.std.proofs.Common.{◌≡◌, ℕ, zero, suc, ◌+◌, ◌-◌, ◌*◌, ◌%◌, ◌<◌, ◌≤◌, refl, ◌∙◌, ap, sym, subst, arith}
-use Rattle.std.specs.Prelude.{Bool, true, false, nat_eq, find, cond, List, [], ◌∷◌, length, Option, Some, None, slice_get}
+use Rattle.std.proofs.Common.{◌≡◌, ℕ, zero, suc, ◌+◌, ◌-◌, ◌%◌, ◌≤◌, refl, ◌∙◌, ap, sym, subst, arith}
+use Rattle.std.specs.Prelude.{Bool, true, false, nat_eq, find, cond, List, [], ◌∷◌, Some, None, slice_get}
 use Rattle.std.proofs.lemmas.Bool.{eqb-true}
 use Rattle.self_terms.specs.declared.values.BodyId.{BodyId}
 use Rattle.self_terms.specs.declared.values.Value.TheVariants as values
@@ -8,11 +8,10 @@ use Rattle.sparc_store.specs.Words.{Words, word_at, HasFrame}
 use Rattle.sparc_store.specs.Windows.{Frame as Window, frame_before, but_first}
 use Rattle.source_model.specs.Soundness.{body_in}
 use Rattle.source_model.specs.State.{State}
-use Rattle.heap_cells.specs.Laying.{Cells}
 use Rattle.heap_cells.specs.Shapes.{Cell, Plain, Vector, Text, Block, Context, size}
 use Rattle.heap_cells.specs.Standing.{IsValue, IsReceiver}
 use Rattle.heap_cells.proofs.Reading.{read_block}
-use Rattle.frame_walk.specs.Places.{Descriptor, Frame, shown, plain_descriptor, holder_offset}
+use Rattle.frame_walk.specs.Places.{Frame, shown, plain_descriptor, holder_offset}
 use Rattle.frame_walk.specs.Raw.{Raw}
 use Rattle.frame_walk.specs.Walk.{activations, AreLaid}
 use Rattle.raw_steps.specs.Messages.{has_mark, frame_marked}

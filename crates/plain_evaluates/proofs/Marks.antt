@@ -1,8 +1,7 @@
 -- The mark of a block's context tells whether its maker runs in the current activity.
-use Rattle.std.proofs.Common.{◌≡◌, ◌≢◌, ◌⊎◌, ℕ, zero, suc, ◌+◌, ◌*◌, ◌/◌, ◌%◌, ◌<◌, ◌≤◌, refl, ◌∙◌, ap, sym, subst, arith, inl, inr}
+use Rattle.std.proofs.Common.{◌≡◌, ◌≢◌, ℕ, zero, suc, ◌+◌, ◌*◌, ◌/◌, ◌%◌, ◌<◌, ◌≤◌, refl, ◌∙◌, ap, sym, subst, arith, inl, inr}
 use Rattle.std.specs.Prelude.{Bool, true, false, nat_eq, not, ◌&&◌, find, cond, if◌then◌else◌, List, [], ◌∷◌, length, Option, Some, None, slice_get}
 use Rattle.std.proofs.lemmas.Bool.{cases_eq, eqb-true, eq-eqb, ne_eqb, cond-false}
-use Rattle.std.proofs.lemmas.Grind.{common_steps}
 use Rattle.self_terms.specs.declared.nodes.Node.{Node}
 use Rattle.self_terms.specs.declared.nodes.Selector.{Selector}
 use Rattle.self_terms.specs.declared.values.BodyId.{BodyId}
@@ -13,19 +12,19 @@ use Rattle.sparc_store.specs.Words.{Words, word_at}
 use Rattle.sparc_store.specs.Windows.{saved_at, frame_before, but_first}
 use Rattle.source_model.specs.Soundness.{body_in}
 use Rattle.source_model.specs.State.{State}
-use Rattle.heap_cells.specs.Source.{Made, Owner, Plain as without, Ended, Live}
+use Rattle.heap_cells.specs.Source.{Made, Plain as without, Ended, Live}
 use Rattle.heap_cells.specs.Standing.{IsValue}
 use Rattle.heap_cells.proofs.Numbered.{got_if}
 use Rattle.heap_cells.proofs.Reading.{read_block, read_context, read_ended}
 use Rattle.std.proofs.lemmas.Option.{slice_get_within}
 use Rattle.frame_walk.specs.Places.{Frame}
 use Rattle.frame_walk.specs.Raw.{IsFrame}
-use Rattle.raw_steps.specs.Messages.{has_mark, frame_marked}
+use Rattle.raw_steps.specs.Messages.{has_mark}
 use Rattle.raw_steps.specs.Sends.{maker_frame, frame_at}
 use Rattle.raw_steps.specs.Stands.{Sense}
 use Rattle.plain_words.specs.Showing.{viewed}
 use Rattle.plain_words.specs.Units.{frame_locals, frame_words}
-use Rattle.plain_runs.specs.Host.{Host, seen, waiting, raw_of, heap_words, descriptor_at}
+use Rattle.plain_runs.specs.Host.{Host, seen, waiting, raw_of, descriptor_at}
 use Rattle.plain_runs.specs.Sound.{IsCaller, IsHeld, RunsAt, callers_of, entry_frame, ending_stub}
 use Rattle.plain_runs.specs.Course.{CanGo}
 use Rattle.plain_runs.proofs.Located.{some_is}
@@ -37,8 +36,8 @@ use Rattle.plain_evaluates.specs.Evaluates.{frames_waiting}
 use Rattle.plain_evaluates.specs.Refusing.{mark_at, is_live, Decides, MarksDecide}
 use Rattle.plain_evaluates.proofs.Blocks.{in_cell}
 use Rattle.plain_evaluates.proofs.Free.{IsAbove, all_above, going, apart, is_current, not_current}
-use Rattle.plain_evaluates.proofs.Heaped.{InHeap, same_word}
-use Rattle.plain_evaluates.proofs.Makers.{IsThere, marked_there, block_there}
+use Rattle.plain_evaluates.proofs.Heaped.{same_word}
+use Rattle.plain_evaluates.proofs.Makers.{marked_there, block_there}
 
 -- one that is there is found
 found_by : (t : Bool) (mark : ℕ) (f : Frame) (fs : List Frame) → nat_eq f.mark mark ≡ t → (f.mark ≢ mark → (y : Frame) × (find (has_mark mark) fs ≡ Some y)) → (y : Frame) × (cond t (Some f) (find (has_mark mark) fs) ≡ Some y)

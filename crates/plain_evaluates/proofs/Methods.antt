@@ -1,5 +1,5 @@
 -- A method that a message meets is entered.
-use Rattle.std.proofs.Common.{◌≡◌, ◌≢◌, ℕ, zero, suc, ◌-◌, ◌<◌, ◌≤◌, refl, ◌∙◌, ap, sym, arith}
+use Rattle.std.proofs.Common.{◌≡◌, ◌≢◌, ℕ, zero, suc, ◌-◌, ◌<◌, refl, ◌∙◌, ap, sym, arith}
 use Rattle.std.specs.Prelude.{false, List, [], ◌∷◌, ◌++◌, length, Some, slice_get}
 use Rattle.self_terms.specs.declared.nodes.Node.{Node}
 use Rattle.self_terms.specs.declared.nodes.Selector.{Selector}

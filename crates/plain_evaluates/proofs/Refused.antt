@@ -1,16 +1,13 @@
 -- Where the service can't enter what a message meets.
 use Rattle.std.proofs.Common.{◌≡◌, ℕ, suc, ◌+◌, ◌<◌, ◌≤◌, refl, ◌∙◌, ap, sym, arith}
-use Rattle.std.specs.Prelude.{true, false, if◌then◌else◌, List, [], ◌∷◌, length, Some}
+use Rattle.std.specs.Prelude.{true, ◌∷◌, length, Some}
 use Rattle.std.proofs.lemmas.Bool.{cond-true}
 use Rattle.self_terms.specs.declared.bodies.Body.{Body}
 use Rattle.self_terms.specs.declared.errors.ErrorName.TheVariants as errors
 use Rattle.self_terms.specs.declared.nodes.Node.{Node}
 use Rattle.self_terms.specs.declared.nodes.Selector.{Selector}
-use Rattle.self_terms.specs.declared.values.BodyId.{BodyId}
-use Rattle.self_terms.specs.declared.values.Value.TheVariants as values
 use Rattle.self_terms.specs.Depths.{depth}
-use Rattle.source_model.specs.declared.objects.Content.TheVariants.{Method}
-use Rattle.source_model.specs.Messages.{Holds, body_of}
+use Rattle.source_model.specs.Messages.{body_of}
 use Rattle.source_model.specs.Sends.{enters, entry_cost}
 use Rattle.source_model.specs.Soundness.{body_in}
 use Rattle.source_model.specs.State.{State}
@@ -25,11 +22,10 @@ use Rattle.plain_words.specs.Showing.{viewed}
 use Rattle.plain_words.specs.Units.{owns_context, frame_locals}
 use Rattle.plain_runs.specs.Host.{Host, raw_of}
 use Rattle.plain_runs.specs.Sound.{RunsAt, callers_of}
-use Rattle.plain_runs.specs.Course.{CanGo}
 use Rattle.plain_steps.specs.Steps.{StandsFor}
 use Rattle.plain_sends.specs.Sends.{IsSent, met_of}
 use Rattle.plain_evaluates.specs.Evaluates.{context_words, frames_waiting}
-use Rattle.plain_evaluates.specs.Refusing.{is_live, IsError, IsCostly, MethodRefused, MethodsAreRefused, BlockRefused, BlocksAreRefused}
+use Rattle.plain_evaluates.specs.Refusing.{IsError, IsCostly, MethodsAreRefused, BlocksAreRefused}
 use Rattle.plain_evaluates.proofs.Entered.{many_older, wants_one}
 use Rattle.plain_evaluates.proofs.Marks.{decides}
 

@@ -1,5 +1,5 @@
 -- Memory when an activation has begun: what a SAVE and the new frame leave of it.
-use Rattle.std.proofs.Common.{◌≡◌, ℕ, zero, suc, ◌+◌, ◌*◌, ◌<◌, ◌≤◌, refl, ◌∙◌, ap, arith, inl, inr}
+use Rattle.std.proofs.Common.{◌≡◌, ℕ, suc, ◌+◌, ◌*◌, ◌<◌, ◌≤◌, refl, ◌∙◌, ap, arith, inl, inr}
 use Rattle.std.specs.Prelude.{List, [], ◌∷◌, length}
 use Rattle.self_terms.specs.declared.nodes.Node.{Node}
 use Rattle.sparc_store.specs.Words.{Words, word_at, with_word, IsWithin}

@@ -1,6 +1,6 @@
 -- The words of an entry may begin.
-use Rattle.std.proofs.Common.{◌≡◌, ℕ, suc, ◌+◌, ◌*◌, ◌≤◌, refl, ◌∙◌, ap, sym, arith, length-append}
-use Rattle.std.specs.Prelude.{Bool, true, false, if◌then◌else◌, List, length}
+use Rattle.std.proofs.Common.{◌≡◌, ℕ, suc, ◌+◌, ◌*◌, refl, ◌∙◌, ap, arith, length-append}
+use Rattle.std.specs.Prelude.{Bool, true, false, if◌then◌else◌, length}
 use Rattle.self_terms.specs.declared.bodies.Body.{Body}
 use Rattle.self_terms.specs.declared.nodes.Node.{Node}
 use Rattle.sparc_machine.specs.State.{stack_of}
