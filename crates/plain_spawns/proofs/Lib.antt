@@ -1,1 +1,4 @@
 pub mod Spawning
+pub mod Resting
+pub mod Filled
+pub mod Hosting
