@@ -2,3 +2,4 @@ pub mod Spawning
 pub mod Resting
 pub mod Filled
 pub mod Hosting
+pub mod Starting
