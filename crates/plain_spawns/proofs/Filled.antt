@@ -1,7 +1,7 @@
 -- The first frame of a stack, which keeps the holder alone.
-use Rattle.std.proofs.Common.{◌≡◌, ℕ, suc, ◌+◌, ◌-◌, ◌*◌, ◌/◌, ◌<◌, ◌≤◌, refl, ◌∙◌, ap, sym, arith, inl}
+use Rattle.std.proofs.Common.{◌≡◌, ℕ, ◌+◌, ◌-◌, ◌*◌, ◌/◌, ◌<◌, ◌≤◌, ◌∙◌, ap, arith, inl}
 use Rattle.std.proofs.lemmas.Option.{slice_get_within}
-use Rattle.std.specs.Prelude.{true, List, [], ◌∷◌, length, Some, slice_get}
+use Rattle.std.specs.Prelude.{true, List, [], length, Some, slice_get}
 use Rattle.self_terms.specs.declared.bodies.Body.{Body}
 use Rattle.sparc_store.specs.Words.{Words, word_at, HasFrame, IsWithin}
 use Rattle.sparc_store.specs.Windows.{saved_at}

@@ -1,9 +1,9 @@
 -- Words put at the heap's top leave what activities show whose frames all stand in memory.
-use Rattle.std.proofs.Common.{◌≡◌, ◌⊎◌, ℕ, suc, ◌+◌, ◌*◌, ◌/◌, ◌<◌, ◌≤◌, refl, ◌∙◌, ap, sym, subst, arith, inl, inr}
+use Rattle.std.proofs.Common.{◌≡◌, ℕ, suc, ◌+◌, ◌*◌, ◌/◌, ◌≤◌, refl, ◌∙◌, ap, sym, subst, arith, inl, inr}
 use Rattle.std.specs.Prelude.{List, [], ◌∷◌, length, map, Some, slice_get}
 use Rattle.sparc_store.specs.Words.{Words, word_at, IsWithin}
 use Rattle.sparc_store.specs.Windows.{Frame as Window, saved_at}
-use Rattle.frame_walk.specs.Raw.{Thread, Going}
+use Rattle.frame_walk.specs.Raw.{Going}
 use Rattle.frame_walk.specs.Walk.{activations, AreLaid, SameBetween}
 use Rattle.frame_walk.proofs.Resting.{rests, saved_same}
 use Rattle.plain_words.specs.Moves.{with_words}
