@@ -30,6 +30,7 @@ use Rattle.plain_steps.specs.Steps.{StandsFor}
 use Rattle.plain_sends.specs.Sends.{IsSent}
 use Rattle.plain_sends.proofs.Settling.{KeptTo, StillThere, kept_to, stays_there}
 use Rattle.plain_evaluates.specs.Evaluates.{BlocksAreEntered, frames_waiting}
+use Rattle.plain_evaluates.specs.Paying.{BlocksPay}
 use Rattle.plain_evaluates.proofs.Asked.{sender_shown, machine_called, call_settles, AtEntry, at_entry}
 use Rattle.plain_evaluates.proofs.Called.{entry_place, sender_laid, sender_sound}
 use Rattle.plain_evaluates.proofs.Entered.{entry_steps}
@@ -117,8 +118,8 @@ module _ (z : Sense) (h : Host) (s : State) (b n : ℕ) (node : Node) (sel : Sel
         holder = ap (λ k. word_at (saved (stack_of mc)).memory (k + holder_offset)) (sym at_mark) ∙ sym holds.word;
       }
 
-pub blocks_entered : BlocksAreEntered
-blocks_entered z h s b n node sel r q stood can o c block maker holder at met own receiver y some is_open goal cost few =
+pub blocks_pay : BlocksPay
+blocks_pay z h s b n node sel r q stood can o c block maker holder at met own receiver y some is_open goal cost few =
     let body = body_in h.bodies block.0 in
     let f = viewed h.machine b n (frame_locals (body_in h.bodies b)) (depth (body_in h.bodies b).nodes n) in
     let initial = initial_words h.references body in
@@ -130,3 +131,6 @@ blocks_entered z h s b n node sel r q stood can o c block maker holder at met ow
     let is = can_do.words initial (initials_are z h s stood can.runs block.0) in
     entry_steps z h s b n node sel r q stood can block.0 goal cost at holder few (owns_context body) true refl is_open (block_entry q.message block can_do.maker) (block_words (raw_of h).mem q.words y initial) is refl reads.receiver
     reads.holder reads.outer (words_given z h s b n node sel r q can block.0 goal cost at holder is_open.same) can_do.done_is can_do.has_maker (many_given z h s b n node sel r q block.0 is_open.same) reads.start
+
+pub blocks_entered : BlocksAreEntered
+blocks_entered z h s b n node sel r q stood can o c block maker holder at met own receiver y some is_open goal cost few = (blocks_pay z h s b n node sel r q stood can o c block maker holder at met own receiver y some is_open goal cost few).does

@@ -32,7 +32,8 @@ use Rattle.plain_runs.specs.Sound.{RunsAt, callers_of}
 use Rattle.plain_runs.specs.Course.{with_machine, CanGo}
 use Rattle.plain_runs.specs.Services.{handed, calls}
 use Rattle.plain_runs.proofs.Keeping.{threads_set}
-use Rattle.plain_steps.specs.Steps.{StandsFor, DoesStep}
+use Rattle.plain_steps.specs.Steps.{StandsFor}
+use Rattle.plain_evaluates.specs.Paying.{DoesPaidStep}
 use Rattle.plain_steps.proofs.Answering.{wants_none}
 use Rattle.plain_steps.proofs.Words.{stands_after}
 use Rattle.plain_sends.specs.Sends.{IsSent}
@@ -132,6 +133,11 @@ has_top true m n h c same is aligned low keeps = record { aligned = aligned; fro
 cost_is : (owns : Bool) (m to : MachineState) (n : ℕ) → n ≤ 69 → m.regs 3 ≡ 0 → to.regs 3 ≡ cost_then owns m n → to.regs 3 ≡ cost_more owns n
 cost_is false m to n few zero3 e = e ∙ zero3
 cost_is true m to n few zero3 e = e ∙ omega (arith, few, zero3)
+
+-- as many words are counted as are put at the heap's top
+pays : (owns : Bool) (m to : MachineState) (n top cost was sum : ℕ) → m.regs 6 ≡ top → to.regs 3 ≡ cost_more owns n → to.regs 6 ≡ top_then owns m n → was ≡ cost → to.regs 6 + 4 * (sum + cost) ≡ top + 4 * (sum + was + to.regs 3)
+pays false m to n top cost was sum is costs e same = omega (arith, is, costs, e, same)
+pays true m to n top cost was sum is costs e same = omega (arith, is, costs, e, same)
 
 -- memory as the words leave it is that of a frame filled over a heap in which the context stands
 memory_is : (owns block : Bool) (h : Host) (c : ℕ) (m : MachineState) → (let p = place_below (with_machine h m) c in let x = body_in h.bodies c in let cell = cell_of owns block h c m in
@@ -261,7 +267,7 @@ module _ (z : Sense) (h : Host) (s : State) (b n : ℕ) (node : Node) (sel : Sel
       ap (λ (y : Frame). y ∷ callers_of h1 r.view.older) (sender_shown h b n node m1 goal r can kept_here ∙ ap {A = List ℕ} (λ ws. frame_at f.next ws f) (sym q.rest))
       ∙ ap (λ (ys : List Frame). frame_at f.next q.words.rest f ∷ ys) still.callers
 
-  pub entered_step : CanStart block mc → RawFollows z (raw_after (raw_of h) (heap_words m1.memory) heap_then now (h.cost + h.machine.regs 3 + cost_more owns count)) (step s) [] → DoesStep z (calls goal cost at holder (with_machine h q.asks.to)) s
+  pub entered_step : CanStart block mc → RawFollows z (raw_after (raw_of h) (heap_words m1.memory) heap_then now (h.cost + h.machine.regs 3 + cost_more owns count)) (step s) [] → DoesPaidStep z h (calls goal cost at holder (with_machine h q.asks.to)) s
   entered_step start raw =
       let m = h.machine in
       let mt = q.asks.to in
@@ -298,20 +304,23 @@ module _ (z : Sense) (h : Host) (s : State) (b n : ℕ) (node : Node) (sel : Sel
       let few = entry_few h.references x (can.runs c).translates in
       let stands : mc.pc ≡ at = refl in
       record {
-        instructions = g.instructions;
-        few = omega (arith, few, g.few, stands);
-        to = to;
-        goes = g.goes;
-        hosted = hosted_as steps sum h2 inside.hosted;
-        goal = inside.goal ∙ kept_here.goal_is ∙ sym kept_called.goal_is;
-        body = c;
-        number = 0;
-        next = inside.next;
-        runs = runs_as steps sum h2 c 0 inside.next inside.runs;
-        sense = raw.to;
-        stands = stands_after z h last s (raw_after (raw_of h) (heap_words m1.memory) heap_then now (h.cost + m.regs 3 + cost_more owns count)) stood shows refl refl refl raw;
-        counted = sym raw.stands.steps ∙ ap (λ y. y + 1) stood.stands.steps;
-        silent = raw.same;
+        does = record {
+          instructions = g.instructions;
+          few = omega (arith, few, g.few, stands);
+          to = to;
+          goes = g.goes;
+          hosted = hosted_as steps sum h2 inside.hosted;
+          goal = inside.goal ∙ kept_here.goal_is ∙ sym kept_called.goal_is;
+          body = c;
+          number = 0;
+          next = inside.next;
+          runs = runs_as steps sum h2 c 0 inside.next inside.runs;
+          sense = raw.to;
+          stands = stands_after z h last s (raw_after (raw_of h) (heap_words m1.memory) heap_then now (h.cost + m.regs 3 + cost_more owns count)) stood shows refl refl refl raw;
+          counted = sym raw.stands.steps ∙ ap (λ y. y + 1) stood.stands.steps;
+          silent = raw.same;
+        };
+        paid = pays owns mc to count (m.regs 6) (m.regs 3) (mt.regs 3) h.cost top_same costs g.begun.top (mv.kept 3 refl);
       }
 
   -- What the source enters, and its words.
@@ -390,5 +399,5 @@ module _ (z : Sense) (h : Host) (s : State) (b n : ℕ) (node : Node) (sel : Sel
         } in
         subst (λ (w : Raw). RawFollows z w (step s) []) same raw
 
-    pub entry_steps : CanStart block mc → DoesStep z (calls goal cost at holder (with_machine h q.asks.to)) s
+    pub entry_steps : CanStart block mc → DoesPaidStep z h (calls goal cost at holder (with_machine h q.asks.to)) s
     entry_steps start = entered_step start (by_kind owns owned keeps)

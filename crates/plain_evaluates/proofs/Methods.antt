@@ -21,6 +21,7 @@ use Rattle.plain_runs.specs.Services.{handed}
 use Rattle.plain_steps.specs.Steps.{StandsFor}
 use Rattle.plain_sends.specs.Sends.{IsSent}
 use Rattle.plain_evaluates.specs.Evaluates.{MethodsAreEntered}
+use Rattle.plain_evaluates.specs.Paying.{MethodsPay}
 use Rattle.plain_evaluates.proofs.Asked.{machine_called, arguments_kept, holder_back}
 use Rattle.plain_evaluates.proofs.Entered.{all_words, registers_long, entry_steps}
 use Rattle.plain_evaluates.proofs.Initials.{initials_are}
@@ -52,8 +53,8 @@ pub many_given : (z : Sense) (h : Host) (s : State) (b n : ℕ) (node : Node) (s
 many_given z h s b n node sel r q c same =
     sym (lengths z.cells z.places q.message.arguments q.words.arguments q.send.message.arguments) ∙ ap length q.arguments ∙ registers_long q.asks.to.regs 9 sel.args ∙ sym same
 
-pub methods_entered : MethodsAreEntered
-methods_entered z h s b n node sel r q stood can o c holder at met low object is_open goal cost few =
+pub methods_pay : MethodsPay
+methods_pay z h s b n node sel r q stood can o c holder at met low object is_open goal cost few =
     let x = body_in h.bodies c.0 in
     let f = viewed h.machine b n (frame_locals (body_in h.bodies b)) (depth (body_in h.bodies b).nodes n) in
     let initial = initial_words h.references x in
@@ -61,3 +62,6 @@ methods_entered z h s b n node sel r q stood can o c holder at met low object is
     let done = method_enters (raw_of h) s z stood.stands q.sender q.older f (callers_of h r.view.older) node q.is_at q.message q.words sel.name.0 _ q.send o c met low in
     entry_steps z h s b n node sel r q stood can c.0 goal cost at holder few (owns_context x) false refl is_open (method_entry q.message o c) (method_words q.words holder c initial) is refl (sym q.receiver_is)
     (holder_back holder (q.asks.to.regs 8) (object_there z h s stood o holder low object)) refl (words_given z h s b n node sel r q can c.0 goal cost at holder is_open.same) done tt (many_given z h s b n node sel r q c.0 is_open.same) tt
+
+pub methods_entered : MethodsAreEntered
+methods_entered z h s b n node sel r q stood can o c holder at met low object is_open goal cost few = (methods_pay z h s b n node sel r q stood can o c holder at met low object is_open goal cost few).does
