@@ -16,7 +16,7 @@ use Rattle.frame_walk.proofs.Resting.{shown_same}
 use Rattle.raw_steps.specs.Stands.{Sense}
 use Rattle.plain_words.specs.Moves.{registers_from}
 use Rattle.plain_words.specs.Showing.{viewed}
-use Rattle.plain_words.specs.Units.{frame_locals, frame_words, owns_context}
+use Rattle.plain_words.specs.Units.{frame_locals, frame_words, owns_context, of_block}
 use Rattle.plain_words.proofs.Basics.{other_register}
 use Rattle.plain_words.proofs.Shown.{no_scratch, window_same}
 use Rattle.plain_runs.specs.Host.{Host}
@@ -116,9 +116,9 @@ pub record AtMethod (h : Host) (b n c at older : ℕ) (node : Node) : Type 0 whe
   pub called : IsCalled h b n c at node
   pub deep : called.view.older ≡ older
 
-pub at_method : (z : Sense) (h : Host) (s : State) (b n : ℕ) (node : Node) (sel : Selector) (r : RunsAt h b n node) (q : IsSent z h s b n node sel r) → CanGo h → (c goal cost at holder : ℕ) → HasUnit h c at → owns_context (body_in h.bodies c) ≡ false
+pub at_method : (z : Sense) (h : Host) (s : State) (b n : ℕ) (node : Node) (sel : Selector) (r : RunsAt h b n node) (q : IsSent z h s b n node sel r) → CanGo h → (c goal cost at holder : ℕ) → HasUnit h c at → owns_context (body_in h.bodies c) ≡ false → of_block (body_in h.bodies c) ≡ false
     → (let to = machine_called z h s b n node sel r q goal cost at holder in SettledTo h to goal → StillThere h to b r.view.older → AtMethod (with_machine h to) b n c at r.view.older node)
-at_method z h s b n node sel r q can c goal cost at holder unit plain st still =
+at_method z h s b n node sel r q can c goal cost at holder unit plain method st still =
     let to = machine_called z h s b n node sel r q goal cost at holder in
     let low : SameCode h.machine.memory to.memory = λ x small. st.memory.others x (λ e. absurd (omega (arith, e, small))) (λ e. absurd (omega (arith, e, small))) in
     let behind = q.behind in
@@ -133,6 +133,7 @@ at_method z h s b n node sel r q can c goal cost at holder unit plain st still =
         stands = record { here = refl; next = refl };
         unit = unit_kept h to c at low unit;
         plain = plain;
+        method = method;
       };
       deep = still.deep;
     }

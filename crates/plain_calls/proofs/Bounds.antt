@@ -7,10 +7,10 @@ use Rattle.self_terms.specs.declared.bodies.Body.{Body}
 use Rattle.self_terms.specs.declared.bodies.Local.{Local}
 use Rattle.self_terms.specs.declared.nodes.Node.{Node}
 use Rattle.self_terms.specs.Depths.{grown, depth, depth_from}
-use Rattle.plain_words.specs.Code.{argument_stores, initial_stores, plus, count}
 use Rattle.plain_words.specs.Translating.{CanTranslate}
 use Rattle.plain_words.specs.declared.references.References.{References}
 use Rattle.plain_words.specs.Units.{larger, deepest, datum_word, initial_words, entry_code, owns_context, frame_locals, frame_words}
+use Rattle.plain_words.proofs.Long.{entry_most}
 use Rattle.plain_enters.specs.Entering.{largest_frame}
 
 larger_most : (a b m : ℕ) → a ≤ m → b ≤ m → larger a b ≤ m
@@ -53,24 +53,10 @@ initial_long r x = length-map x.locals (λ (y : Local). datum_word r y.initial)
 pub frame_least : (r : References) (x : Body) → owns_context x ≡ false → 27 + length x.arguments + length (initial_words r x) ≤ frame_words x
 frame_least r x e = omega (arith, half_least (frame_locals x) (deepest 0 x.nodes), locals_are x e, initial_long r x)
 
-argument_stores_long : (register slot n : ℕ) → length (argument_stores register slot n) ≡ n
-argument_stores_long register slot zero = refl
-argument_stores_long register slot (suc n) = let e = argument_stores_long (register + 1) (slot + 1) n in omega arith
-
-initial_stores_long : (slot : ℕ) (ws : List ℕ) → length (initial_stores slot ws) ≡ 3 * length ws
-initial_stores_long slot [] = refl
-initial_stores_long slot (w ∷ ws) = let e = initial_stores_long (slot + 1) ws in omega arith
-
 -- so few words stand before the first node
-pub entry_few : (r : References) (x : Body) → CanTranslate x → length (entry_code r x) ≤ 206
+pub entry_few : (r : References) (x : Body) → CanTranslate x → length (entry_code r x) ≤ 214
 entry_few r x c =
-    let n = length x.arguments in
-    let initial = initial_words r x in
-    let one = argument_stores_long 25 0 n in
-    let two = initial_stores_long n initial in
-    let three = initial_long r x in
-    let four = length-append (argument_stores 25 0 n) (initial_stores n initial ++ (plus 4 1 ∷ count ∷ [])) in
-    let five = length-append (initial_stores n initial) (plus 4 1 ∷ count ∷ []) in
+    let most = entry_most r x in
     let arguments = c.arguments in
     let locals = c.locals in
     omega arith

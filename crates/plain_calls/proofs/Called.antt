@@ -1,7 +1,8 @@
 -- A method is about to be entered.
-use Rattle.std.proofs.Common.{◌≡◌, ℕ, suc, ◌+◌, ◌-◌, ◌*◌, ◌/◌, ◌%◌, ◌<◌, ◌≤◌, ◌∙◌, arith, length-append}
+use Rattle.std.proofs.Common.{◌≡◌, ℕ, suc, ◌+◌, ◌-◌, ◌*◌, ◌/◌, ◌%◌, ◌<◌, ◌≤◌, ◌∙◌, ap, sym, subst, arith, length-append}
 use Rattle.std.specs.Prelude.{false, List, length}
 use Rattle.self_terms.specs.declared.nodes.Node.{Node}
+use Rattle.sparc_insn.specs.declared.insn.Insn.{Insn}
 use Rattle.sparc_store.specs.Words.{Words, HasFrame}
 use Rattle.sparc_store.specs.Windows.{Frame as Window, IsPlace, kept, frame_before, but_first}
 use Rattle.sparc_store.specs.Chain.{IsSound, IsStack}
@@ -10,11 +11,13 @@ use Rattle.source_model.specs.Soundness.{body_in}
 use Rattle.frame_walk.specs.Walk.{Asked, AreLaid}
 use Rattle.frame_moves.proofs.Listed.{stack_of as laid_stack}
 use Rattle.frame_moves.proofs.Spared.{can_save}
-use Rattle.plain_words.specs.Going.{StandsAt}
+use Rattle.plain_words.specs.Going.{StandsAt, At}
+use Rattle.plain_words.specs.Code.{method_code}
 use Rattle.plain_words.specs.Moves.{CanEnter, Enters, entered_memory}
-use Rattle.plain_words.specs.Units.{nodes_code, entry_code, initial_words, owns_context, frame_locals, frame_words}
+use Rattle.plain_words.specs.Units.{nodes_code, entry_code, initial_words, owns_context, of_block, frame_locals, frame_words}
 use Rattle.plain_words.proofs.Basics.{at_front}
 use Rattle.plain_words.proofs.Prologue.{method_enters}
+use Rattle.plain_words.proofs.ByKind.{method_entry}
 use Rattle.plain_runs.specs.Host.{Host, descriptor_at}
 use Rattle.plain_runs.specs.Units.{HasUnit, IsBehindCall}
 use Rattle.plain_runs.specs.Sound.{IsCaller, InFrame, IsHosted, entry_frame, ending_stub}
@@ -34,6 +37,7 @@ pub record IsCalled (h : Host) (b n c at : ℕ) (node : Node) : Type 0 where
   pub stands : StandsAt h.machine at
   pub unit : HasUnit h c at
   pub plain : owns_context (body_in h.bodies c) ≡ false
+  pub method : of_block (body_in h.bodies c) ≡ false
 
 laid_more : (asked : Asked) (entry end : ℕ) (memory : Words) (n sp : ℕ) (w : Window) (pc : ℕ) (held : List Window) → asked pc sp (w 14) → AreLaid asked entry end memory n (w 14) (frame_before memory (w 14) held) (w 15 + 8) (but_first held)
     → AreLaid asked entry end memory (suc n) sp w pc held
@@ -79,6 +83,11 @@ place_stack h b n c at node q =
     one_stack (place_below h c) (frame_words (body_in h.bodies c)) (m.regs 14) there.3 (place_is h b n c at node q)
     ∙ same_stack (descriptor_at h) (IsCaller h) (entry_frame h.current) ending_stub m.memory (suc q.view.older) (m.regs 14) (kept m.regs) (m.regs 15 + 8) m.older (callers_have_room h q.runs) (sender_laid h b n c at node q)
 
+-- the words before its first node are those of a method without a context
+entry_words : (h : Host) (c : ℕ) → owns_context (body_in h.bodies c) ≡ false → of_block (body_in h.bodies c) ≡ false
+    → entry_code h.references (body_in h.bodies c) ≡ method_code (4 * frame_words (body_in h.bodies c)) (length (body_in h.bodies c).arguments) (initial_words h.references (body_in h.bodies c))
+entry_words h c plain method = method_entry h.references (body_in h.bodies c) plain method
+
 pub can_enter : (h : Host) (b n c at : ℕ) (node : Node) → (q : IsCalled h b n c at node)
     → CanEnter h.machine at (frame_words (body_in h.bodies c)) (length (body_in h.bodies c).arguments) (initial_words h.references (body_in h.bodies c))
 can_enter h b n c at node q =
@@ -86,10 +95,11 @@ can_enter h b n c at node q =
     let r = h.references in
     let u = q.unit in
     let rest = nodes_code r (owns_context x) (frame_locals x) 0 0 x.nodes in
+    let words = entry_words h c q.plain q.method in
     record {
       stands = q.stands;
-      code_region = record { aligned = u.region.aligned; from = u.region.from; to = omega (arith, u.region.to, length-append (entry_code r x) rest) };
-      code_there = at_front h.machine.memory at (entry_code r x) rest u.code;
+      code_region = record { aligned = u.region.aligned; from = u.region.from; to = omega (arith, u.region.to, length-append (entry_code r x) rest, ap length words) };
+      code_there = (let P : List Insn → Type 0 = At h.machine.memory at in subst P words (at_front h.machine.memory at (entry_code r x) rest u.code));
       few = (q.runs c).translates.arguments;
       room = frame_least r x q.plain;
       place = place_below h c;
@@ -107,4 +117,5 @@ pub enters_it : (h : Host) (b n c at : ℕ) (node : Node) → IsCalled h b n c a
 unfolding can_enter
 enters_it h b n c at node q =
     let x = body_in h.bodies c in
-    method_enters h.machine at (frame_words x) (length x.arguments) (initial_words h.references x) (can_enter h b n c at node q)
+    let P : List Insn → Type 0 = λ code. Enters h.machine (at + 4 * length code) (place_below h c) (entered_memory h.machine (place_below h c) (length x.arguments) (initial_words h.references x)) in
+    subst P (sym (entry_words h c q.plain q.method)) (method_enters h.machine at (frame_words x) (length x.arguments) (initial_words h.references x) (can_enter h b n c at node q))

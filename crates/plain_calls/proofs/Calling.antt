@@ -1,6 +1,6 @@
 -- A method that a message meets is entered.
 use Rattle.std.proofs.Common.{◌≡◌, ◌≢◌, ℕ, zero, suc, ◌+◌, ◌-◌, ◌<◌, ◌≤◌, refl, ◌∙◌, ap, sym, arith}
-use Rattle.std.specs.Prelude.{List, [], ◌∷◌, ◌++◌, length, Some, slice_get, slice_set}
+use Rattle.std.specs.Prelude.{List, [], ◌∷◌, ◌++◌, length, is_some, Some, slice_get, slice_set}
 use Rattle.self_terms.specs.declared.nodes.Node.{Node}
 use Rattle.self_terms.specs.declared.nodes.Selector.{Selector}
 use Rattle.self_terms.specs.declared.values.BodyId.{BodyId}
@@ -94,7 +94,7 @@ threads_called z h s b n node sel r q can c holder at goal cost some same st sti
     ∙ ap (λ y. slice_set ts h.current (Going (y ∷ frame_at f.next q.words.rest f ∷ callers_of h r.view.older))) (frame_begun z h s b n node sel r q can c holder at goal cost some same)
 
 pub methods_called : MethodsAreCalled
-methods_called z h s b n node sel r q stood can o c holder at met low object unit plain some same room goal cost few =
+methods_called z h s b n node sel r q stood can o c holder at met low object unit plain own some same room goal cost few =
     let m = h.machine in
     let mt = q.asks.to in
     let mv = q.asks.moved in
@@ -103,7 +103,7 @@ methods_called z h s b n node sel r q stood can o c holder at met low object uni
     let hm = with_machine h m1 in
     let st = call_settles z h s b n node sel r q can goal cost at holder few in
     let still = settles h m1 b goal r.view can.hosted can.runs st in
-    let method = at_method z h s b n node sel r q can c.0 goal cost at holder unit plain st still in
+    let method = at_method z h s b n node sel r q can c.0 goal cost at holder unit plain (ap is_some own) st still in
     let called = method.called in
     let room1 : suc called.view.older < 4096 = omega (arith, room, method.deep) in
     let g = in_method hm b n c.0 at node called room1 some in

@@ -1,6 +1,6 @@
 -- Blocks and methods are entered, with contexts and without.
 use Rattle.std.proofs.Common.{◌≡◌, ℕ, zero, suc, ◌+◌, ◌-◌, ◌*◌, ◌/◌, ◌%◌, ◌^◌, ◌<◌, ◌≤◌, refl, ◌∙◌, ap, sym, subst, arith, inl, length-append}
-use Rattle.std.specs.Prelude.{Bool, true, false, if◌then◌else◌, nat_eq, List, [], ◌∷◌, ◌++◌, length, pos, negsuc}
+use Rattle.std.specs.Prelude.{Bool, true, false, if◌then◌else◌, nat_eq, List, [], ◌∷◌, ◌++◌, length, negsuc}
 use Rattle.std.specs.Int.Bits.{or_zero_r}
 use Rattle.std.proofs.lemmas.Grind.{common_steps}
 use Rattle.sparc_insn.specs.declared.insn.Insn.{Insn}
@@ -8,21 +8,21 @@ use Rattle.sparc_insn.specs.declared.insn.Insn.TheVariants.{Three}
 use Rattle.sparc_insn.specs.declared.insn.Operand.TheVariants.{Imm}
 use Rattle.sparc_insn.specs.declared.insn.Op3.TheVariants as ops
 use Rattle.sparc_store.specs.Words.{Words, word_at, with_word, HasWord, HasFrame, IsWithin}
-use Rattle.sparc_store.specs.Windows.{IsPlace, with_room, is_full, words_of, oldest, oldest_at, with_spilled, CanSave, but_spilled, kept}
+use Rattle.sparc_store.specs.Windows.{IsPlace, with_room, is_full, words_of, oldest, oldest_at, with_spilled, CanSave}
 use Rattle.sparc_store.proofs.Framing.{framed}
 use Rattle.sparc_machine.specs.State.{MachineState, with_reg, stack_of}
 use Rattle.sparc_machine.specs.Alu.{add}
 use Rattle.sparc_machine.specs.Table.{effect}
 use Rattle.frame_walk.specs.Places.{holder_offset, local_offset}
 use Rattle.plain_words.specs.Going.{Goes, At, StandsAt, IsCodeFrom}
-use Rattle.plain_words.specs.Code.{store, move, plus, refer, count, set_word, argument_stores, initial_stores, maker_code, holder_code, start_code, no_maker, cell_offset, cell_arguments, cell_initials, context_head, context_end, kept_first, kept_last, entry_kept, frame_code, entered_code}
-use Rattle.plain_words.specs.Moves.{IsContext, HasRoom, with_words, registers_from, handed_holder, IsEvaluated, CanStart, given_maker, given_receiver, given_holder, in_frame, HasTop, own_context, cost_then, top_then, CanBegin, begun_memory, Begun, Begins}
-use Rattle.plain_words.proofs.Basics.{goes_then, goes_on, goes_none, on, stepped, at_front, at_behind, stands_as, other_register}
+use Rattle.plain_words.specs.Code.{store, move, set_word, argument_stores, initial_stores, maker_code, start_code, no_maker, cell_offset, cell_arguments, cell_initials, context_head, context_end, kept_first, kept_last, entry_kept, entered_code}
+use Rattle.plain_words.specs.Moves.{HasRoom, with_words, registers_from, CanStart, given_maker, given_receiver, given_holder, in_frame, HasTop, own_context, cost_then, top_then, CanBegin, begun_memory, Begins}
+use Rattle.plain_words.proofs.Basics.{goes_then, goes_on, on, stepped, at_front, at_behind, stands_as, other_register}
 use Rattle.plain_words.proofs.Straight.{straight, all_straight, CanAll, goes_straight, both_straight, can_both, straight_on}
-use Rattle.plain_words.proofs.Placing.{IsPlaced, placed, two_parts}
+use Rattle.plain_words.proofs.Placing.{placed, two_parts}
 use Rattle.plain_words.proofs.Reading.{context_word}
 use Rattle.plain_words.proofs.Making.{heap_placed, four_put, joined}
-use Rattle.plain_words.proofs.Prologue.{saved, last_code, Kept, KeptBut, keeps, fills, full_six, at_apart, stores_straight, initials_straight, with_words_both, from_to, registers_long, HolderFound, find_holder, below_by}
+use Rattle.plain_words.proofs.Prologue.{saved, last_code, Kept, KeptBut, keeps, fills, full_six, at_apart, stores_straight, initials_straight, with_words_both, from_to, registers_long, find_holder, below_by}
 
 -- What is below the stacks stays where the oldest frame is saved.
 room_spares : (full : Bool) (memory : Words) (at : ℕ) (held : List (ℕ → ℕ)) (b : ℕ) → IsWithin memory → (full ≡ true → IsPlace (oldest_at at held)) → b < 0x40000000

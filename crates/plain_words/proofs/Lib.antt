@@ -17,3 +17,6 @@ pub mod Insns
 pub mod Making
 pub mod Entering
 pub mod ByKind
+pub mod Stored
+pub mod MadeShown
+pub mod BegunShown

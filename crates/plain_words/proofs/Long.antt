@@ -10,7 +10,7 @@ use Rattle.self_terms.specs.declared.nodes.Node.{Node}
 use Rattle.self_terms.specs.declared.nodes.Node.TheVariants as nodes
 use Rattle.sparc_insn.specs.declared.insn.Insn.TheVariants.{Trap}
 use Rattle.plain_words.specs.declared.references.References.{References}
-use Rattle.plain_words.specs.Code.{poll, walk, reach, arguments_code, handed_code, answered_code, is_sum, summed_code, sum_code, primitive_code, read_code, store_code, return_code, argument_stores, initial_stores, cell_arguments, cell_initials, context_head, context_end, holder_code, maker_code, start_code, no_maker, entry_kept, entered_code, store, move, plus, count}
+use Rattle.plain_words.specs.Code.{poll, walk, reach, arguments_code, handed_code, answered_code, is_sum, summed_code, sum_code, primitive_code, read_code, store_code, return_code, argument_stores, initial_stores, cell_arguments, cell_initials, context_end, start_code, entry_kept, plus, count}
 use Rattle.plain_words.specs.Units.{node_code, nodes_code, entry_code, unit_code, initial_words, datum_word, owns_context, of_block, numbered, entry_size, frame_locals, frame_words, deepest}
 use Rattle.plain_words.specs.Translating.{IsShort, AreShort}
 

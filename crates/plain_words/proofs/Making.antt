@@ -1,6 +1,6 @@
 -- A block is made at the heap's top.
 use Rattle.std.proofs.Common.{◌≡◌, ℕ, suc, ◌+◌, ◌*◌, ◌/◌, ◌%◌, ◌^◌, ◌<◌, ◌≤◌, refl, ◌∙◌, ap, subst, arith, inl, inr}
-use Rattle.std.specs.Prelude.{Bool, true, false, not, nat_eq, nat_lt, bit_or, List, [], ◌∷◌, ◌++◌, length, pos}
+use Rattle.std.specs.Prelude.{true, false, not, nat_eq, nat_lt, bit_or, List, [], ◌∷◌, ◌++◌, length, pos}
 use Rattle.std.proofs.lemmas.Grind.{common_steps}
 use Rattle.sparc_insn.specs.declared.insn.Insn.{Insn}
 use Rattle.sparc_insn.specs.declared.insn.Insn.TheVariants.{Sethi, Branch, Three, Trap}
@@ -12,7 +12,7 @@ use Rattle.sparc_machine.specs.Alu.{add, holds}
 use Rattle.sparc_machine.specs.Table.{effect, transferred, went, words_on}
 use Rattle.frame_walk.specs.Places.{pending_offset}
 use Rattle.plain_words.specs.Going.{Goes, IsTrap, At, StandsAt, IsCodeFrom}
-use Rattle.plain_words.specs.Code.{nop, load, store, plus, refer, pend, count, set_word, made_code, block_code}
+use Rattle.plain_words.specs.Code.{nop, load, store, refer, pend, set_word, made_code, block_code}
 use Rattle.plain_words.specs.Moves.{is_scratch, IsReady, HasRoom, cost_left, with_words, block_made, Makes, IsFull}
 use Rattle.plain_words.proofs.Basics.{goes_then, goes_on, goes_none, on, jumps, stepped, stepped_to, code_behind, at_trap, stands_as, other_register}
 use Rattle.plain_words.proofs.Straight.{straight, goes_straight, straight_spares}

@@ -29,7 +29,7 @@ pub moved_window : (m to : MachineState) (p steps : ℕ) (memory : Words) → Mo
 moved_window m to p steps memory h = window_same to.regs m.regs (λ r high. h.kept r (no_scratch r high))
 
 -- Words below a slot of the frame stay.
-slots_stay : (memory : Words) (window : ℕ → ℕ) (sp at word offset n : ℕ) → sp + offset + 4 * n ≤ at → map (word_in_place (with_word memory at word) window sp) (slots_from offset n) ≡ map (word_in_place memory window sp) (slots_from offset n)
+pub slots_stay : (memory : Words) (window : ℕ → ℕ) (sp at word offset n : ℕ) → sp + offset + 4 * n ≤ at → map (word_in_place (with_word memory at word) window sp) (slots_from offset n) ≡ map (word_in_place memory window sp) (slots_from offset n)
 slots_stay memory window sp at word offset zero h = refl
 slots_stay memory window sp at word offset (suc n) h =
     ap (λ w. w ∷ map (word_in_place (with_word memory at word) window sp) (slots_from (offset + 4) n)) (others_stay memory at word (sp + offset) (omega arith))
@@ -41,7 +41,7 @@ pending_stay memory window sp at word locals (suc k) h =
     ap (λ w. w ∷ map (word_in_place (with_word memory at word) window sp) (pending_places locals k)) (others_stay memory at word (sp + pending_offset locals k) (omega arith))
     ∙ ap (λ ws. word_at memory (sp + pending_offset locals k) ∷ ws) (pending_stay memory window sp at word locals k (omega arith))
 
-pended_list : (memory : Words) (window : ℕ → ℕ) (sp word locals k : ℕ) → word_at (with_word memory (sp + pending_offset locals k) word) (sp + pending_offset locals k) ≡ word
+pub pended_list : (memory : Words) (window : ℕ → ℕ) (sp word locals k : ℕ) → word_at (with_word memory (sp + pending_offset locals k) word) (sp + pending_offset locals k) ≡ word
     → map (word_in_place (with_word memory (sp + pending_offset locals k) word) window sp) (pending_places locals (k + 1)) ≡ word ∷ map (word_in_place memory window sp) (pending_places locals k)
 pended_list memory window sp word locals k top =
     let at = sp + pending_offset locals k in
@@ -49,7 +49,7 @@ pended_list memory window sp word locals k top =
     ∙ ap (λ w. w ∷ map (word_in_place (with_word memory at word) window sp) (pending_places locals k)) top
     ∙ ap (λ ws. word ∷ ws) (pending_stay memory window sp at word locals k (omega arith))
 
-outside : (sp words d b : ℕ) → (b < sp) ⊎ (sp + 4 * words ≤ b) → d < 4 * words → b ≢ sp + d
+pub outside : (sp words d b : ℕ) → (b < sp) ⊎ (sp + 4 * words ≤ b) → d < 4 * words → b ≢ sp + d
 outside sp words d b (inl below) h = λ e. absurd (omega (arith, below, e))
 outside sp words d b (inr above) h = λ e. absurd (omega (arith, above, e))
 

@@ -9,7 +9,7 @@ ghost use Rattle.plain_words.specs.Code.{constant_code, self_code, drop_code, re
 ghost use Rattle.self_terms.specs.declared.bodies.Body.{Body};
 ghost use Rattle.plain_words.specs.declared.references.References.{References};
 ghost use Rattle.plain_words.specs.Units.{owns_context, of_block, numbered, frame_words, initial_words, entry_code};
-ghost use Rattle.plain_words.specs.Showing.{PendedShows, LeftShows};
+ghost use Rattle.plain_words.specs.Showing.{PendedShows, LeftShows, MadeShows, BegunShows};
 ghost use Rattle.plain_words.specs.Moves.{IsReady, Does, pended, HasLocal, local_address, assigned, Asks, handed_receiver, first_handed, handed_argument, summed, overflows, Ends, CanReturn, HasContext, unmarked, HasRoom, cost_left, block_made, Makes, IsFull, CanEnter, Enters, entered_memory, CanBegin, Begins, begun_memory};
 
 /// The words of a constant pend it.
@@ -107,8 +107,11 @@ pub fn entries_have_kinds()
     ensures other { (r : References) (b : Body) (owns block : Bool) → owns_context b ≡ owns → of_block b ≡ block → entry_code r b ≡ entered_code owns block (4 * frame_words b) (numbered r.contexts) (length b.arguments) (initial_words r b) }
 {}
 
-/// What the frame in view shows after a word was pended, and where nothing was stored.
+/// What the frame in view shows after a word was pended, where nothing was stored, after a block was made, whose words then stand in the
+/// heap, and where an activation with a context has begun.
 pub fn frames_show_on()
     ensures pended { PendedShows }
     ensures left { LeftShows }
+    ensures made { MadeShows }
+    ensures begun { BegunShows }
 {}
