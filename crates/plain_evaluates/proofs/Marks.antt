@@ -22,6 +22,7 @@ use Rattle.frame_walk.specs.Raw.{IsFrame}
 use Rattle.raw_steps.specs.Messages.{has_mark}
 use Rattle.raw_steps.specs.Sends.{maker_frame, frame_at}
 use Rattle.raw_steps.specs.Stands.{Sense}
+use Rattle.plain_words.specs.Moves.{IsContext}
 use Rattle.plain_words.specs.Showing.{viewed}
 use Rattle.plain_words.specs.Units.{frame_locals, frame_words}
 use Rattle.plain_runs.specs.Host.{Host, seen, waiting, raw_of, descriptor_at}
@@ -178,7 +179,17 @@ module _ (z : Sense) (h : Host) (s : State) (b n : ℕ) (node : Node) (sel : Sel
     gone_by (Some y) e gone = let bad : true ≡ false = sym (found_live y e) ∙ gone in absurd (cc)
 
     pub decides : Decides z h s b n node sel r q
-    decides = record { live = live_found; gone = gone_by found refl }
+    decides =
+        let m = h.machine in
+        let has = block_there (raw_of h) s z stood.stands w maker block value in
+        let outer : word_at mem (w + 7) ≡ word_at q.asks.to.memory (q.asks.to.regs 8 + 7) =
+        same_word m.memory (w + 7) (in_cell w 7 has.block refl (omega arith)) ∙ ap (λ k. word_at m.memory (k + 7)) q.receiver_is ∙ ap (λ (y : Words). word_at y (q.asks.to.regs 8 + 7)) (sym q.asks.moved.memory_is) in
+        record {
+          block = subst (λ (k : ℕ). IsContext k 0) q.receiver_is has.block;
+          context = subst (λ (k : ℕ). IsContext k 0) outer has.context;
+          live = live_found;
+          gone = gone_by found refl;
+        }
 
 pub marks_decide : MarksDecide
 marks_decide z h s b n node sel r q stood can block maker receiver = decides z h s b n node sel r q stood can block maker receiver

@@ -16,6 +16,7 @@ use Rattle.source_model.specs.Step.{done}
 use Rattle.frame_walk.specs.Places.{Frame}
 use Rattle.raw_steps.specs.Sends.{here_of, maker_frame}
 use Rattle.raw_steps.specs.Stands.{Sense}
+use Rattle.plain_words.specs.Moves.{IsContext}
 use Rattle.plain_words.specs.Units.{owns_context}
 use Rattle.plain_runs.specs.Host.{Host, raw_of}
 use Rattle.plain_runs.specs.Sound.{RunsAt}
@@ -32,8 +33,11 @@ mark_at m = word_at m.memory (word_at m.memory (m.regs 8 + 7) + 7)
 abbrev pub is_live : MachineState → Bool
 is_live m = not (nat_eq (mark_at m) 0) && nat_eq (mark_at m / 0x02000000) (m.regs 14 / 0x02000000)
 
--- At the trap of a message for a block that decides whether the mark is that of a frame of the current activity.
+-- At the trap of a message for a block the words that this reads are there, and it decides whether the mark is that of a frame of the current
+-- activity.
 pub record Decides (z : Sense) (h : Host) (s : State) (b n : ℕ) (node : Node) (sel : Selector) (r : RunsAt h b n node) (q : IsSent z h s b n node sel r) : Type 0 where
+  pub block : IsContext (q.asks.to.regs 8) 0
+  pub context : IsContext (word_at q.asks.to.memory (q.asks.to.regs 8 + 7)) 0
   pub live : is_live q.asks.to ≡ true → (y : Frame) × (maker_frame (raw_of h).mem q.words (frames_waiting z h s b n node sel r q) ≡ Some y)
   pub gone : is_live q.asks.to ≡ false → maker_frame (raw_of h).mem q.words (frames_waiting z h s b n node sel r q) ≡ None
 
