@@ -1,6 +1,6 @@
 -- A unit is put for a method that was found.
 use Rattle.std.proofs.Common.{◌≡◌, ◌≢◌, ℕ, zero, suc, ◌+◌, ◌-◌, ◌*◌, ◌<◌, ◌≤◌, ◌^◌, refl, ◌∙◌, ap, sym, subst, arith, inl, inr, length-append}
-use Rattle.std.specs.Prelude.{◌⊎◌, Bool, true, false, List, [], ◌∷◌, ◌++◌, length, Option, Some, None, slice_get, slice_set, unwrap_or}
+use Rattle.std.specs.Prelude.{◌⊎◌, true, List, [], ◌∷◌, length, Option, Some, None, slice_get, slice_set, unwrap_or}
 use Rattle.std.proofs.lemmas.Bool.{cases_eq}
 use Rattle.std.proofs.lemmas.Option.{same_Some, none-some}
 use Rattle.self_terms.specs.declared.bodies.Body.{Body}
@@ -20,9 +20,8 @@ use Rattle.plain_words.specs.Putting.{Apart}
 use Rattle.plain_words.specs.Translating.{IsShort, AreShort, CanTranslate}
 use Rattle.plain_words.specs.Units.{unit_code, unit_points, frame_locals}
 use Rattle.plain_words.proofs.Long.{unit_long}
-use Rattle.plain_runs.specs.Host.{Host, first_unit}
+use Rattle.plain_runs.specs.Host.{Host}
 use Rattle.plain_runs.specs.Services.{next_unit, with_unit}
-use Rattle.plain_runs.specs.Course.{with_machine}
 use Rattle.plain_units.specs.Putting.{IsPut}
 use Rattle.plain_units.proofs.Points.{points_long}
 use Rattle.plain_units.proofs.Putting.{units_put}
@@ -30,14 +29,14 @@ use Rattle.plain_stretches.specs.Gate.{is_blockless}
 use Rattle.plain_stretches.specs.Standing.{IsOn}
 use Rattle.plain_stretches.specs.Stretches.{IsBlockless, HasNoBlocks}
 use Rattle.plain_stretches.proofs.Owned.{IsOwn, own_node}
-use Rattle.plain_stretches.proofs.Settled.{set_there, set_elsewhere, set_long}
+use Rattle.plain_stretches.proofs.Settled.{set_elsewhere, set_long}
 use Rattle.plain_stretches.proofs.Stretches.{polls_stretch}
 use Rattle.plain_turns.specs.Rooms.{most_words, unput, unmade, HasRoom}
 use Rattle.plain_turns.specs.Asking.{count, found_here, behind_poll, goes_back}
-use Rattle.plain_turns.specs.Resting.{IsGoing, IsAtTrap}
-use Rattle.plain_turns.specs.Turns.{IsAsked, HasRoomFor, MethodsAreThere, UnitsFit, BeginsAgain, UnitsTurn}
+use Rattle.plain_turns.specs.Resting.{IsAtTrap}
+use Rattle.plain_turns.specs.Turns.{IsAsked, MethodsAreThere, UnitsFit, BeginsAgain, UnitsTurn}
 use Rattle.plain_turns.proofs.Back.{back_again}
-use Rattle.plain_turns.proofs.Asked.{at_poll, sent, moved, node_is, goal_left, counted_is, behind_is}
+use Rattle.plain_turns.proofs.Asked.{at_poll, sent, moved, node_is, counted_is, behind_is}
 use Rattle.plain_turns.proofs.Answering.{found_method}
 use Rattle.plain_turns.proofs.Telling.{given_by, blockless_body}
 
