@@ -1,3 +1,4 @@
 pub mod Filling
 mod Outs
 pub mod Walking
+pub mod Parked

@@ -1,3 +1,4 @@
 -- The host of plain code.
 pub mod Hosted
 pub mod Opened
+pub mod Started

@@ -28,7 +28,7 @@ const STACK_STRIDE: u32 = 0x0200_0000;
 const ENTRY: u32 = 0x0100_0000;
 
 // Where the frame of entry of a stack begins.
-fn entry_frame(k: u32) -> u32
+pub(crate) fn entry_frame(k: u32) -> u32
     requires { k < 4 }
     ensures { result ≡ entry_frame k }
 {
@@ -36,7 +36,7 @@ fn entry_frame(k: u32) -> u32
 }
 
 // The local at a number.
-fn local_at(locals: &[Local], k: usize) -> Local
+pub(crate) fn local_at(locals: &[Local], k: usize) -> Local
     requires { k < length locals.now }
     ensures { slice_get locals.now k ≡ Some result }
 {
@@ -69,7 +69,7 @@ fn fill(machine: &mut Machine, references: &References, body: &Body, place: u32,
 }
 
 // The first frame of a stack is in view.
-fn lay_frame(machine: &mut Machine, place: u32, entry: u32, receiver: u32)
+pub(crate) fn lay_frame(machine: &mut Machine, place: u32, entry: u32, receiver: u32)
     requires { IsPlace place }
     ensures { state machine.new ≡ in_first_frame place entry receiver (state machine.old) }
 {
@@ -98,7 +98,7 @@ impl Hosting {
     }
 
     // Those of the current activity do, where it runs.
-    fn park(&mut self)
+    pub(crate) fn park(&mut self)
         requires { (sp pc count : ℕ) → slice_get (host self.old).statuses (host self.old).current ≡ Some (Waiting sp pc count) → CanFlush (stack_of (host self.old).machine) }
         ensures { host self.new ≡ parked (host self.old) }
     {

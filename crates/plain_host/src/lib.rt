@@ -5,6 +5,7 @@
 #![tactic(auto)]
 
 mod beginning;
+mod contexts;
 mod hosting;
 mod opening;
 mod performing;

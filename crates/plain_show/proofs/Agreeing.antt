@@ -1,6 +1,6 @@
 -- What is shown of a stack is what the source shows.
-use Rattle.std.proofs.Common.{◌≡◌, ℕ, zero, suc, ◌+◌, ◌-◌, ◌/◌, ◌%◌, ◌<◌, ◌≤◌, ◌==◌, refl, ◌∙◌, ap, sym, subst, Bool, true, arith, inl, inr}
-use Rattle.std.specs.Prelude.{List, [], ◌∷◌, Option, Some, slice_get, if◌then◌else◌}
+use Rattle.std.proofs.Common.{◌≡◌, ℕ, zero, suc, ◌+◌, ◌-◌, ◌/◌, ◌%◌, ◌<◌, ◌≤◌, refl, ◌∙◌, ap, sym, arith, inl, inr}
+use Rattle.std.specs.Prelude.{List, [], ◌∷◌, Some, slice_get, if◌then◌else◌}
 use Rattle.std.proofs.lemmas.Bool.{cases_eq, eq-eqb}
 use Rattle.std.proofs.lemmas.Grind.{common_steps}
 use Rattle.self_terms.specs.declared.bodies.Body.{Body}
@@ -10,8 +10,7 @@ use Rattle.sparc_store.specs.Windows.{flushed}
 use Rattle.sparc_machine.specs.State.{stack_of}
 use Rattle.source_model.specs.Formed.{IsWellFormed}
 use Rattle.source_model.specs.State.{Activation, Running, State}
-use Rattle.frame_walk.specs.Raw.{Thread, Going}
-use Rattle.frame_walk.specs.Places.{Frame}
+use Rattle.frame_walk.specs.Raw.{Going}
 use Rattle.frame_moves.proofs.Spared.{flush_only, low_same}
 use Rattle.raw_steps.specs.Stands.{Sense, Stands}
 use Rattle.session_text.specs.Frames.{shown_of}
@@ -21,7 +20,7 @@ use Rattle.shown_frames.proofs.Acts.{activations_show}
 use Rattle.plain_runs.specs.Host.{Host, seen, waiting, thread_of, threads_from, raw_of, heap_words}
 use Rattle.plain_runs.specs.declared.status.Status.{Status}
 use Rattle.plain_runs.specs.declared.status.Status.TheVariants.{Waiting}
-use Rattle.plain_show.specs.Showing.{IsAtPoll, flushed_host, stack_shown}
+use Rattle.plain_show.specs.Showing.{IsAtPoll, stack_shown}
 
 -- memory has the words of the heap
 in_heap : (at : ℕ) → at % 4 ≡ 0 → 0x20000000 ≤ at → at < 0x20000000 + 46137344 → place_of at ≡ Heap ((at - 0x20000000) / 4)

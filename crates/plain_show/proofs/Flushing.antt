@@ -1,8 +1,7 @@
 -- The frames of an activity at a poll, before and after they are saved.
-use Rattle.std.proofs.Common.{◌≡◌, ℕ, zero, suc, ◌+◌, ◌-◌, ◌*◌, ◌^◌, ◌/◌, ◌<◌, ◌≤◌, refl, ◌∙◌, ap, sym, subst, arith}
-use Rattle.std.specs.Prelude.{List, [], ◌∷◌, length, Some, slice_get}
+use Rattle.std.proofs.Common.{◌≡◌, ℕ, zero, suc, ◌+◌, ◌-◌, ◌*◌, ◌<◌, ◌≤◌, refl, ◌∙◌, ap, sym, subst, arith}
+use Rattle.std.specs.Prelude.{List, [], length}
 use Rattle.std.proofs.lemmas.Option.{slice_get_within}
-use Rattle.self_terms.specs.declared.nodes.Node.{Node}
 use Rattle.self_terms.specs.Depths.{taken, depth}
 use Rattle.sparc_store.specs.Words.{Words, word_at}
 use Rattle.sparc_store.specs.Windows.{Frame as Window, IsPlace, kept, saved_at, frame_before, but_first, flushed, CanFlush}
@@ -10,18 +9,17 @@ use Rattle.sparc_store.specs.Chain.{IsSound, IsStack}
 use Rattle.sparc_machine.specs.State.{stack_of}
 use Rattle.source_model.specs.Soundness.{body_in}
 use Rattle.heap_cells.proofs.Numbered.{got_if}
-use Rattle.frame_walk.specs.Places.{Descriptor, Frame, pending_places, plain_descriptor}
+use Rattle.frame_walk.specs.Places.{Descriptor, pending_places, plain_descriptor}
 use Rattle.frame_walk.specs.Walk.{activations, Asked, AreLaid}
 use Rattle.frame_walk.proofs.Resting.{laid_as}
 use Rattle.frame_moves.proofs.Listed.{stack_of as laid_stack}
 use Rattle.frame_moves.proofs.Spared.{can_flush, flush_only, low_same}
 use Rattle.frame_moves.proofs.Moving.{flush_stays}
 use Rattle.plain_words.specs.Units.{frame_locals}
-use Rattle.plain_words.specs.Translating.{CanTranslate}
 use Rattle.plain_runs.specs.Host.{Host, seen, waiting, descriptor_at, point_at}
 use Rattle.plain_runs.specs.declared.status.Status.TheVariants.{Waiting}
-use Rattle.plain_runs.specs.Sound.{IsCaller, IsHeld, Calls, Polls, RunsAt, IsHosted, entry_frame, ending_stub}
-use Rattle.plain_runs.specs.Course.{AllRun, with_machine}
+use Rattle.plain_runs.specs.Sound.{IsCaller, IsHeld, Calls, Polls, entry_frame, ending_stub}
+use Rattle.plain_runs.specs.Course.{AllRun}
 use Rattle.plain_runs.specs.Units.{node_offset}
 use Rattle.plain_runs.proofs.Keeping.{held_kept}
 use Rattle.plain_runs.proofs.Pointed.{call_descriptor, in_poll_descriptor, node_within, next_offset}

@@ -1,29 +1,27 @@
 -- Machine and host once the frames of the current activity are saved.
-use Rattle.std.proofs.Common.{◌≡◌, ◌≢◌, ◌⊎◌, ℕ, zero, suc, ◌+◌, ◌*◌, ◌/◌, ◌<◌, ◌≤◌, refl, ◌∙◌, ap, sym, subst, arith, inl, inr}
+use Rattle.std.proofs.Common.{◌≡◌, ◌≢◌, ◌⊎◌, ℕ, zero, suc, ◌+◌, ◌/◌, ◌<◌, refl, ◌∙◌, ap, sym, subst, arith, inl, inr}
 use Rattle.std.specs.Prelude.{List, [], ◌∷◌, All, length, Some, slice_get, slice_set}
 use Rattle.std.proofs.lemmas.List.Elements.{All-nil}
 use Rattle.std.proofs.lemmas.Option.{slice_get_within}
 use Rattle.sparc_insn.specs.declared.insn.Insn.TheVariants.{Trap}
-use Rattle.sparc_store.specs.Words.{Words, word_at, IsWithin}
-use Rattle.sparc_store.specs.Windows.{Frame as Window, IsPlace, kept, saved_at, frame_before, but_first, flushed}
+use Rattle.sparc_store.specs.Words.{Words}
+use Rattle.sparc_store.specs.Windows.{Frame as Window, kept, saved_at, frame_before, but_first, flushed}
 use Rattle.sparc_store.proofs.SoundStacks.{flush_regs, flush_held}
 use Rattle.sparc_machine.specs.State.{stack_of}
 use Rattle.source_model.specs.Soundness.{body_in}
-use Rattle.frame_walk.specs.Places.{Descriptor, Frame}
-use Rattle.frame_walk.specs.Raw.{Thread, Going, Raw}
-use Rattle.frame_walk.specs.Walk.{activations, Asked, AreLaid, Frames, IsFrameOf}
+use Rattle.frame_walk.specs.Places.{Descriptor}
+use Rattle.frame_walk.specs.Raw.{Going}
+use Rattle.frame_walk.specs.Walk.{activations, Asked, AreLaid, Frames}
 use Rattle.frame_walk.proofs.Resting.{laid_as}
 use Rattle.frame_moves.proofs.Spared.{flush_only, low_same}
 use Rattle.frame_moves.proofs.Moving.{flush_stays, flush_view_stays, flush_sound, flush_own, flushed_window, others_stay}
-use Rattle.plain_words.specs.Going.{At}
 use Rattle.plain_words.specs.Units.{frame_words}
 use Rattle.plain_runs.specs.Host.{Host, seen, waiting, threads_from, descriptor_at, heap_words, raw_of}
-use Rattle.plain_runs.specs.declared.status.Status.{Status}
 use Rattle.plain_runs.specs.declared.status.Status.TheVariants.{Waiting}
 use Rattle.plain_runs.specs.Sound.{IsRoomy, IsCaller, IsHeld, IsWindow, Calls, Polls, InFrame, RunsAt, IsHosted, entry_frame, ending_stub}
-use Rattle.plain_runs.specs.Course.{AllRun, with_machine}
+use Rattle.plain_runs.specs.Course.{AllRun}
 use Rattle.plain_runs.proofs.Keeping.{unit_kept, stub_kept, caller_kept, held_kept, threads_set, OthersWait}
-use Rattle.plain_runs.proofs.Working.{callers_have_room, held_have_room, run_kept, same_descriptors}
+use Rattle.plain_runs.proofs.Working.{held_have_room, run_kept, same_descriptors}
 use Rattle.plain_show.specs.Showing.{IsAtPoll, StaysAtPoll, flushed_host}
 use Rattle.plain_show.proofs.Flushing.{few, entry_place, laid_more, laid_now, sound, stack, low}
 

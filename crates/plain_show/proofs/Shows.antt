@@ -1,11 +1,11 @@
 -- Steps of showing activations.
-use Rattle.std.proofs.Common.{◌≡◌, ◌≢◌, ℕ, zero, suc, ◌+◌, ◌-◌, ◌*◌, ◌/◌, ◌%◌, ◌<◌, ◌≤◌, refl, ◌∙◌, ap, sym, Bool, true, false, cond, ◌&&◌, ◌↔◌, arith, append_assoc, length-append, inl, inr}
-use Rattle.std.specs.Prelude.{List, [], ◌∷◌, ◌++◌, length, map, reverse, take, drop, get_or, Some, slice_get, nat_eq, nat_le, nat_lt, IsTrue}
+use Rattle.std.proofs.Common.{◌≡◌, ◌≢◌, ℕ, zero, suc, ◌+◌, ◌-◌, ◌*◌, ◌/◌, ◌%◌, ◌<◌, ◌≤◌, refl, ◌∙◌, ap, sym, Bool, true, false, cond, ◌&&◌, arith, append_assoc, length-append, inl, inr}
+use Rattle.std.specs.Prelude.{List, [], ◌∷◌, ◌++◌, length, map, reverse, take, drop, get_or, Some, slice_get, nat_eq, nat_le, nat_lt}
 use Rattle.std.proofs.lemmas.Bool.{eq-eqb, ne_eqb, eqb-true, ltb-true, leb-true, cond-true, cond-false}
-use Rattle.std.proofs.lemmas.List.{append-nil, map-append, reverse-append, length-reverse, get_or-reverse, take_more, length-drop}
+use Rattle.std.proofs.lemmas.List.{map-append, reverse-append, length-reverse, get_or-reverse, take_more, length-drop}
 use Rattle.std.proofs.lemmas.Option.{get_or_from_slice_get, slice_get-get_or, slice_get_within}
 use Rattle.sparc_store.specs.Words.{Words, word_at, word_in, HasWord}
-use Rattle.sparc_store.specs.Regions.{Place, Code, Heap, Control, Stacks, Nowhere, place_of, stack_place}
+use Rattle.sparc_store.specs.Regions.{Place, Code, Heap, Control, Stacks, Nowhere, stack_place}
 use Rattle.frame_walk.specs.Places.{Frame}
 use Rattle.shown_frames.specs.Listed.{words_up}
 use Rattle.shown_frames.specs.Showing.{position_of, position_at}

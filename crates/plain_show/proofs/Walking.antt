@@ -1,5 +1,5 @@
 -- From a frame that stands in memory to the next older one.
-use Rattle.std.proofs.Common.{◌≡◌, ℕ, zero, suc, ◌+◌, ◌-◌, ◌*◌, ◌^◌, ◌<◌, ◌≤◌, List, [], ◌∷◌, ◌++◌, length, refl, ap, sym, subst, ◌∙◌, arith, append_assoc}
+use Rattle.std.proofs.Common.{◌≡◌, ℕ, zero, suc, ◌+◌, ◌-◌, ◌*◌, ◌^◌, ◌<◌, ◌≤◌, List, [], ◌∷◌, ◌++◌, refl, ap, sym, subst, ◌∙◌, arith, append_assoc}
 use Rattle.std.specs.Prelude.{nat_lt}
 use Rattle.std.proofs.lemmas.Bool.{cond-true, lt-ltb}
 use Rattle.std.proofs.lemmas.List.{append-nil}
@@ -7,11 +7,11 @@ use Rattle.self_terms.specs.declared.bodies.Body.{Body}
 use Rattle.sparc_store.specs.Words.{Words, word_at, HasFrame}
 use Rattle.plain_words.specs.declared.units.Point.{Point}
 use Rattle.sparc_store.specs.Windows.{saved_at}
-use Rattle.frame_walk.specs.Places.{Place, Slot, Frame, Descriptor, shown, slots_from, pending_places}
-use Rattle.frame_walk.specs.Walk.{activations, AreLaid, AreInside, IsFrameOf}
+use Rattle.frame_walk.specs.Places.{Frame, Descriptor, shown, slots_from, pending_places}
+use Rattle.frame_walk.specs.Walk.{activations, AreLaid, AreInside}
 use Rattle.plain_words.specs.Units.{frame_locals, point_descriptor}
 use Rattle.source_model.specs.Soundness.{body_in}
-use Rattle.plain_runs.specs.Host.{Host, point_at, described, descriptor_at}
+use Rattle.plain_runs.specs.Host.{Host, point_at, descriptor_at}
 use Rattle.plain_show.specs.Reading.{CanRead, IsReadable}
 
 -- what the next frame is asked, and where the older ones can be read

@@ -1,9 +1,9 @@
 -- The words of a frame, one after the other.
-use Rattle.std.proofs.Common.{◌≡◌, ℕ, zero, suc, ◌+◌, ◌-◌, ◌*◌, ◌<◌, ◌≤◌, List, [], ◌∷◌, ◌++◌, length, refl, ap, sym, ◌∙◌, arith, append_assoc}
+use Rattle.std.proofs.Common.{◌≡◌, ℕ, zero, suc, ◌+◌, ◌-◌, ◌*◌, ◌<◌, List, [], ◌∷◌, ◌++◌, refl, ap, sym, ◌∙◌, arith, append_assoc}
 use Rattle.std.specs.Prelude.{map}
 use Rattle.sparc_store.specs.Words.{Words, word_at}
 use Rattle.sparc_store.specs.Windows.{saved_at}
-use Rattle.frame_walk.specs.Places.{Place, Slot, Frame, shown, word_in_place, slots_from, pending_places}
+use Rattle.frame_walk.specs.Places.{Frame, shown, word_in_place, slots_from, pending_places}
 use Rattle.plain_words.specs.declared.units.Point.{Point}
 use Rattle.plain_words.specs.Units.{point_descriptor}
 use Rattle.shown_frames.specs.Listed.{words_up, words_down}

@@ -1,30 +1,26 @@
 -- What answers a message leads on, or ends the run.
-use Rattle.std.proofs.Common.{◌≡◌, ◌≢◌, ℕ, zero, suc, ◌+◌, ◌-◌, ◌*◌, ◌<◌, ◌≤◌, refl, ◌∙◌, ap, sym, subst, arith, inl, inr}
-use Rattle.std.specs.Prelude.{◌⊎◌, Bool, true, false, if◌then◌else◌, List, [], ◌∷◌, length, Option, Some, None, Err, slice_get}
+use Rattle.std.proofs.Common.{◌≡◌, ◌≢◌, ℕ, suc, ◌+◌, ◌-◌, ◌*◌, ◌<◌, ◌≤◌, refl, ◌∙◌, ap, sym, subst, arith}
+use Rattle.std.specs.Prelude.{true, false, length, Some, slice_get}
 use Rattle.self_terms.specs.declared.errors.ErrorName.{ErrorName}
 use Rattle.self_terms.specs.declared.errors.ErrorName.TheVariants as errors
 use Rattle.self_terms.specs.declared.values.BodyId.{BodyId}
 use Rattle.object_maps.specs.declared.maps.SlotKind.TheVariants.{Assign, Method as MethodSlot}
 use Rattle.slot_lookup.specs.declared.sends.Found.TheVariants.{One}
 use Rattle.sparc_machine.specs.State.{MachineState}
-use Rattle.sparc_store.specs.Words.{Words, word_at}
-use Rattle.source_model.specs.declared.objects.Content.TheVariants.{Assignment, Method}
-use Rattle.source_model.specs.Messages.{Holds}
-use Rattle.source_model.specs.Soundness.{body_in, HasBody}
+use Rattle.sparc_store.specs.Words.{word_at}
+use Rattle.source_model.specs.Soundness.{body_in}
 use Rattle.source_model.specs.State.{State, Failed as Ended_by, silent, with_current}
 use Rattle.source_model.specs.Step.{step}
 use Rattle.raw_steps.proofs.Sending.{missing_is}
-use Rattle.plain_words.specs.Translating.{CanTranslate}
-use Rattle.plain_words.specs.Units.{owns_context, frame_locals}
+use Rattle.plain_words.specs.Units.{frame_locals}
 use Rattle.plain_words.specs.Showing.{viewed}
 use Rattle.self_terms.specs.Depths.{depth}
-use Rattle.plain_runs.specs.Host.{Host, raw_of, first_unit}
+use Rattle.plain_runs.specs.Host.{Host, raw_of}
 use Rattle.plain_runs.specs.Sound.{callers_of}
 use Rattle.plain_runs.specs.Services.{with_left, data_answers, assigns, calls, fails}
 use Rattle.plain_runs.specs.Course.{with_machine, AllRun}
-use Rattle.plain_steps.specs.Steps.{DoesStep}
 use Rattle.plain_sends.specs.Found.{data_word}
-use Rattle.plain_sends.specs.Sends.{met_of, IsSent, IsData}
+use Rattle.plain_sends.specs.Sends.{met_of}
 use Rattle.plain_sends.proofs.Settling.{controlled}
 use Rattle.plain_answers.specs.Found.{error_of}
 use Rattle.plain_answers.specs.Whole.{whole}
@@ -35,12 +31,12 @@ use Rattle.plain_calls.proofs.Calling.{methods_called}
 use Rattle.plain_stretches.specs.Gate.{is_blockless, may_enter, gated_step}
 use Rattle.plain_stretches.specs.Standing.{left_of}
 use Rattle.plain_stretches.specs.Stretches.{IsBlockless, StretchOn}
-use Rattle.plain_stretches.proofs.Owned.{blockless_on, blockless_units}
+use Rattle.plain_stretches.proofs.Owned.{blockless_on}
 use Rattle.plain_stretches.proofs.Stretches.{steps_stretch, answers_stretch}
 use Rattle.plain_turns.specs.Asking.{count, place_here, found_here}
 use Rattle.plain_turns.specs.Rooms.{HasRoom}
-use Rattle.plain_turns.specs.Resting.{IsGoing, IsAtTrap, HasRun}
-use Rattle.plain_turns.specs.Turns.{StepsOn, HasRoomFor, DataTurns, AssignmentsTurn, MissesEnd, MethodsAreThere, CallsTurn, OverflowsEnd, UnbuiltEnd}
+use Rattle.plain_turns.specs.Resting.{IsAtTrap, HasRun}
+use Rattle.plain_turns.specs.Turns.{StepsOn, DataTurns, AssignmentsTurn, MissesEnd, CallsTurn, OverflowsEnd, UnbuiltEnd}
 use Rattle.plain_turns.proofs.Asked.{at_poll, sent, moved, place_is, tells_of, goal_left, counted_is, entering, error_step}
 use Rattle.plain_turns.proofs.Ending.{error_ends}
 use Rattle.plain_turns.proofs.Telling.{data_told, IsFoundMethod, method_told, gate_by, given_by, body_blockless, object_by}

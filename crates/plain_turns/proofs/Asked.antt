@@ -1,30 +1,21 @@
 -- At the trap of a message.
-use Rattle.std.proofs.Common.{◌≡◌, ◌≢◌, ℕ, zero, suc, ◌+◌, ◌-◌, ◌*◌, ◌<◌, ◌≤◌, refl, ◌∙◌, ap, sym, subst, arith, inl, inr, length-append}
-use Rattle.std.specs.Prelude.{◌⊎◌, ◌&&◌, not, is_some, Bool, true, false, if◌then◌else◌, List, [], ◌∷◌, ◌++◌, length, Option, Some, None, Err, slice_get}
+use Rattle.std.proofs.Common.{◌≡◌, ℕ, zero, suc, ◌+◌, ◌-◌, ◌*◌, ◌<◌, ◌≤◌, refl, ◌∙◌, ap, sym, subst, arith, inl, inr, length-append}
+use Rattle.std.specs.Prelude.{◌⊎◌, Bool, true, false, if◌then◌else◌, List, [], ◌∷◌, ◌++◌, length, Some, Err}
 use Rattle.std.proofs.lemmas.Option.{same_Some, none-some}
-use Rattle.self_terms.specs.declared.bodies.Body.{Body}
 use Rattle.self_terms.specs.declared.errors.ErrorName.{ErrorName}
-use Rattle.self_terms.specs.declared.errors.ErrorName.TheVariants as errors
-use Rattle.self_terms.specs.declared.names.Name.{Name}
 use Rattle.self_terms.specs.declared.nodes.Node.{Node}
 use Rattle.self_terms.specs.declared.nodes.Node.TheVariants as nodes
-use Rattle.self_terms.specs.declared.nodes.Place.{Place}
 use Rattle.self_terms.specs.declared.nodes.Selector.{Selector}
-use Rattle.self_terms.specs.declared.values.BodyId.{BodyId}
-use Rattle.object_maps.specs.declared.maps.SlotKind.{SlotKind}
-use Rattle.object_maps.specs.declared.maps.SlotKind.TheVariants.{Constant, Parent, Field, Assign, Method as MethodSlot}
+use Rattle.object_maps.specs.declared.maps.SlotKind.TheVariants.{Field, Assign}
 use Rattle.slot_lookup.specs.declared.sends.Found.{Found}
-use Rattle.slot_lookup.specs.declared.sends.Found.TheVariants.{NotUnderstood, One, Ambiguous}
+use Rattle.slot_lookup.specs.declared.sends.Found.TheVariants.{One}
 use Rattle.sparc_machine.specs.State.{MachineState}
-use Rattle.sparc_store.specs.Words.{Words, HasWord, word_at}
-use Rattle.source_model.specs.declared.objects.Content.TheVariants.{Method}
-use Rattle.source_model.specs.Messages.{Met, Missing, Holds, body_of}
+use Rattle.sparc_store.specs.Words.{HasWord}
 use Rattle.source_model.specs.Sends.{Here}
-use Rattle.source_model.specs.Soundness.{body_in, HasBody, Accepts, BlockAccepts, MetAccepts}
-use Rattle.source_model.specs.State.{Activation, Activity, Running, Failed as Ended_by, State, silent, with_current}
-use Rattle.source_model.specs.Step.{done, settled, node_at, place_of, step}
+use Rattle.source_model.specs.Soundness.{body_in, HasBody}
+use Rattle.source_model.specs.State.{Failed as Ended_by, State, silent, with_current}
+use Rattle.source_model.specs.Step.{done, settled, place_of, step}
 use Rattle.raw_steps.specs.Sends.{here_of}
-use Rattle.raw_steps.specs.Stands.{Sense}
 use Rattle.raw_steps.proofs.Nexts.{step_at}
 use Rattle.sparc_insn.specs.declared.insn.Insn.{Insn}
 use Rattle.sparc_insn.specs.declared.insn.Insn.TheVariants.{Trap}
@@ -32,27 +23,24 @@ use Rattle.sparc_machine.specs.Alu.{add}
 use Rattle.self_terms.specs.Depths.{depth_from}
 use Rattle.plain_words.specs.Code.{poll, arguments_code, handed_code, answered_code}
 use Rattle.plain_words.specs.Moves.{Moved}
-use Rattle.plain_words.specs.Translating.{IsShort, CanTranslate}
-use Rattle.plain_words.specs.Units.{owns_context, frame_locals, frame_words}
+use Rattle.plain_words.specs.Translating.{IsShort}
+use Rattle.plain_words.specs.Units.{frame_locals, frame_words}
 use Rattle.plain_words.proofs.Placing.{placed}
-use Rattle.plain_runs.specs.Host.{Host, raw_of}
+use Rattle.plain_runs.specs.Host.{Host}
 use Rattle.plain_runs.specs.Units.{node_offset}
-use Rattle.plain_runs.specs.Course.{with_machine, CanGo, code_at}
+use Rattle.plain_runs.specs.Course.{with_machine, code_at}
 use Rattle.plain_runs.proofs.Pointed.{next_offset}
-use Rattle.plain_sends.specs.Found.{data_word}
-use Rattle.plain_sends.specs.Sends.{selector_of, met_of, IsSent, IsData}
-use Rattle.plain_answers.specs.Found.{IsMethod, error_of}
-use Rattle.plain_answers.specs.Whole.{whole}
-use Rattle.plain_lookups.specs.Telling.{MayLook, start_of, begins_at, found_by, IsEvaluated, FoundTells, IsFound}
+use Rattle.plain_sends.specs.Sends.{selector_of, met_of}
+use Rattle.plain_lookups.specs.Telling.{MayLook, start_of, begins_at, found_by, FoundTells, IsFound}
 use Rattle.plain_lookups.proofs.Telling.{founds_tell}
-use Rattle.plain_stretches.specs.Gate.{is_blockless, may_enter, is_built, not_built, gated_step}
-use Rattle.plain_stretches.specs.Standing.{IsOn, left_of}
-use Rattle.plain_stretches.specs.Stretches.{Halts, AtGoal, AtSend, AtEnd, AtLack, Sends, HasNoBlocks}
+use Rattle.plain_stretches.specs.Gate.{may_enter, is_built, not_built, gated_step}
+use Rattle.plain_stretches.specs.Standing.{left_of}
+use Rattle.plain_stretches.specs.Stretches.{Halts, AtGoal, AtSend, AtEnd, AtLack, Sends}
 use Rattle.plain_stretches.proofs.Gated.{gate_is}
-use Rattle.plain_turns.specs.Asking.{count, body_here, number_here, node_here, place_here, found_for, found_here, behind_poll}
+use Rattle.plain_turns.specs.Asking.{count, body_here, node_here, place_here, found_for, found_here, behind_poll}
 use Rattle.plain_turns.specs.Resting.{IsAtTrap}
-use Rattle.plain_turns.specs.Turns.{IsAsked, MessagesAsk, HasRoomFor, FieldsAreRead}
-use Rattle.plain_turns.proofs.Places.{Points, node_points, sent_points, sent_place}
+use Rattle.plain_turns.specs.Turns.{MessagesAsk, HasRoomFor, FieldsAreRead}
+use Rattle.plain_turns.proofs.Places.{node_points, sent_points, sent_place}
 use Rattle.plain_turns.proofs.Running.{lacks_is}
 
 -- a node that sends has led there

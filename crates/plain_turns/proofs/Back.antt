@@ -1,6 +1,6 @@
 -- The machine goes back to a node's poll, with the counts settled.
 use Rattle.std.proofs.Common.{◌≡◌, ℕ, ◌+◌, ◌-◌, ◌≤◌, refl, ◌∙◌, ap, sym, subst, arith}
-use Rattle.sparc_store.specs.Words.{Words, word_at}
+use Rattle.sparc_store.specs.Words.{Words}
 use Rattle.sparc_machine.specs.State.{MachineState}
 use Rattle.source_model.specs.State.{State}
 use Rattle.raw_steps.specs.Stands.{Sense}

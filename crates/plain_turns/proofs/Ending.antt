@@ -1,7 +1,6 @@
 -- A run ends.
 use Rattle.std.proofs.Common.{◌≡◌, ◌≢◌, ℕ, zero, suc, ◌+◌, ◌-◌, ◌<◌, ◌≤◌, refl, ◌∙◌, ap, sym, subst, arith, inl, inr}
 use Rattle.std.specs.Prelude.{Bool, ◌⊎◌, List, [], ◌∷◌, Option, Some, None, slice_get, slice_set}
-use Rattle.std.proofs.lemmas.Option.{same_Some, none-some}
 use Rattle.self_terms.specs.declared.errors.ErrorName.{ErrorName}
 use Rattle.self_terms.specs.declared.errors.ErrorName.TheVariants as errors
 use Rattle.self_terms.specs.declared.nodes.Place.{Place}
@@ -22,16 +21,16 @@ use Rattle.plain_steps.specs.Steps.{StandsFor}
 use Rattle.plain_begins.specs.Begins.{CanPark, AtPoll, Idle}
 use Rattle.plain_answers.specs.Failing.{PlainUnits}
 use Rattle.plain_answers.proofs.Failing.{activities_end}
-use Rattle.plain_stretches.specs.Gate.{not_built, gated_step, gated_run}
-use Rattle.plain_stretches.specs.Standing.{IsOn, left_of, IsSound}
-use Rattle.plain_stretches.specs.Stretches.{IsBlockless, Halts, AtGoal, AtSend, AtEnd, AtLack}
+use Rattle.plain_stretches.specs.Gate.{gated_step, gated_run}
+use Rattle.plain_stretches.specs.Standing.{left_of, IsSound}
+use Rattle.plain_stretches.specs.Stretches.{Halts, AtGoal, AtSend, AtEnd, AtLack}
 use Rattle.plain_stretches.proofs.Closing.{ends_settle, failures_settle}
 use Rattle.plain_stretches.proofs.Gated.{then_gated, answered_rests, failed_rests}
 use Rattle.plain_stretches.proofs.Joining.{runs_join}
 use Rattle.plain_stretches.proofs.Owned.{blockless_on, blockless_units}
 use Rattle.plain_stretches.proofs.Settled.{set_there}
 use Rattle.plain_turns.specs.Asking.{place_here, place_before}
-use Rattle.plain_turns.specs.Resting.{Rests, IsAtTrap, HasRun}
+use Rattle.plain_turns.specs.Resting.{IsAtTrap, HasRun}
 use Rattle.plain_turns.specs.Turns.{GoalsEnd, AnswersEnd, PrimitivesEnd, ReturnsEnd}
 use Rattle.plain_turns.proofs.Formed.{failed_formed, gated_forms}
 use Rattle.plain_turns.proofs.Places.{Stood, Behind, Before, lacks_stood, behind_place, before_place}

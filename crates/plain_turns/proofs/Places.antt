@@ -1,11 +1,9 @@
 -- Where a machine stands that has asked for a service.
-use Rattle.std.proofs.Common.{◌≡◌, ℕ, suc, ◌+◌, ◌-◌, ◌*◌, ◌≤◌, refl, ◌∙◌, ap, sym, subst, arith, length-append}
-use Rattle.std.specs.Prelude.{true, List, [], ◌∷◌, ◌++◌, length, Option, Some, slice_get}
+use Rattle.std.proofs.Common.{◌≡◌, ℕ, suc, ◌+◌, ◌-◌, ◌*◌, ◌≤◌, refl, ◌∙◌, ap, sym, arith, length-append}
+use Rattle.std.specs.Prelude.{List, ◌∷◌, ◌++◌, length, Some, slice_get}
 use Rattle.std.proofs.lemmas.Option.{same_Some, none-some}
-use Rattle.self_terms.specs.declared.names.Name.{Name}
 use Rattle.self_terms.specs.declared.nodes.Node.{Node}
 use Rattle.self_terms.specs.declared.nodes.Node.TheVariants as nodes
-use Rattle.self_terms.specs.declared.nodes.Place.{Place}
 use Rattle.sparc_machine.specs.State.{MachineState}
 use Rattle.source_model.specs.Soundness.{body_in}
 use Rattle.source_model.specs.State.{Activation, State, Running}
@@ -13,17 +11,15 @@ use Rattle.source_model.specs.Step.{place_at, place_of}
 use Rattle.frame_walk.specs.Places.{Descriptor}
 use Rattle.raw_steps.specs.Stands.{Sense}
 use Rattle.plain_words.specs.Code.{poll}
-use Rattle.plain_words.specs.Units.{is_call}
 use Rattle.plain_runs.specs.Host.{Host, point_at, descriptor_at}
 use Rattle.plain_runs.specs.Units.{node_offset, IsInPoll, IsBehindCall}
 use Rattle.plain_runs.specs.Sound.{RunsAt}
 use Rattle.plain_runs.specs.Course.{with_machine, code_at}
 use Rattle.plain_runs.proofs.Pointed.{call_descriptor, in_poll_descriptor, next_offset}
-use Rattle.plain_steps.specs.Steps.{StandsFor}
 use Rattle.plain_answers.proofs.Failing.{places_agree}
 use Rattle.plain_stretches.specs.Standing.{IsOn}
 use Rattle.plain_stretches.specs.Stretches.{asking, lacking, Sends, Lacks}
-use Rattle.plain_turns.specs.Asking.{body_here, number_here, node_here, place_here, place_before}
+use Rattle.plain_turns.specs.Asking.{number_here, node_here, place_here, place_before}
 
 -- what a point says, by its descriptor
 pub record Points (h : Host) (pc b n : ℕ) : Type 0 where

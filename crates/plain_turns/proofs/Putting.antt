@@ -1,6 +1,6 @@
 -- A unit is put for a method that was found.
 use Rattle.std.proofs.Common.{◌≡◌, ◌≢◌, ℕ, zero, suc, ◌+◌, ◌-◌, ◌*◌, ◌<◌, ◌≤◌, ◌^◌, refl, ◌∙◌, ap, sym, subst, arith, inl, inr, length-append}
-use Rattle.std.specs.Prelude.{◌⊎◌, Bool, true, false, List, [], ◌∷◌, ◌++◌, length, Option, Some, None, slice_get, slice_set, unwrap_or}
+use Rattle.std.specs.Prelude.{◌⊎◌, true, List, [], ◌∷◌, length, Option, Some, None, slice_get, slice_set, unwrap_or}
 use Rattle.std.proofs.lemmas.Bool.{cases_eq}
 use Rattle.std.proofs.lemmas.Option.{same_Some, none-some}
 use Rattle.self_terms.specs.declared.bodies.Body.{Body}
@@ -20,9 +20,8 @@ use Rattle.plain_words.specs.Putting.{Apart}
 use Rattle.plain_words.specs.Translating.{IsShort, AreShort, CanTranslate}
 use Rattle.plain_words.specs.Units.{unit_code, unit_points, frame_locals}
 use Rattle.plain_words.proofs.Long.{unit_long}
-use Rattle.plain_runs.specs.Host.{Host, first_unit}
+use Rattle.plain_runs.specs.Host.{Host}
 use Rattle.plain_runs.specs.Services.{next_unit, with_unit}
-use Rattle.plain_runs.specs.Course.{with_machine}
 use Rattle.plain_units.specs.Putting.{IsPut}
 use Rattle.plain_units.proofs.Points.{points_long}
 use Rattle.plain_units.proofs.Putting.{units_put}
@@ -30,21 +29,21 @@ use Rattle.plain_stretches.specs.Gate.{is_blockless}
 use Rattle.plain_stretches.specs.Standing.{IsOn}
 use Rattle.plain_stretches.specs.Stretches.{IsBlockless, HasNoBlocks}
 use Rattle.plain_stretches.proofs.Owned.{IsOwn, own_node}
-use Rattle.plain_stretches.proofs.Settled.{set_there, set_elsewhere, set_long}
+use Rattle.plain_stretches.proofs.Settled.{set_elsewhere, set_long}
 use Rattle.plain_stretches.proofs.Stretches.{polls_stretch}
 use Rattle.plain_turns.specs.Rooms.{most_words, unput, unmade, HasRoom}
 use Rattle.plain_turns.specs.Asking.{count, found_here, behind_poll, goes_back}
-use Rattle.plain_turns.specs.Resting.{IsGoing, IsAtTrap}
-use Rattle.plain_turns.specs.Turns.{IsAsked, HasRoomFor, MethodsAreThere, UnitsFit, BeginsAgain, UnitsTurn}
+use Rattle.plain_turns.specs.Resting.{IsAtTrap}
+use Rattle.plain_turns.specs.Turns.{IsAsked, MethodsAreThere, UnitsFit, BeginsAgain, UnitsTurn}
 use Rattle.plain_turns.proofs.Back.{back_again}
-use Rattle.plain_turns.proofs.Asked.{at_poll, sent, moved, node_is, goal_left, counted_is, behind_is}
+use Rattle.plain_turns.proofs.Asked.{at_poll, sent, moved, node_is, counted_is, behind_is}
 use Rattle.plain_turns.proofs.Answering.{found_method}
 use Rattle.plain_turns.proofs.Telling.{given_by, blockless_body}
 
 -- Room.
 
 -- a body without a unit takes its words of the room that is kept
-unput_there : (es : List ℕ) (xs : List Body) (k : ℕ) (x : Body) → slice_get es k ≡ Some 0 → slice_get xs k ≡ Some x → most_words x ≤ unput es xs
+pub unput_there : (es : List ℕ) (xs : List Body) (k : ℕ) (x : Body) → slice_get es k ≡ Some 0 → slice_get xs k ≡ Some x → most_words x ≤ unput es xs
 unput_there [] xs k x e f = absurd (none-some 0 e)
 unput_there (e0 ∷ es) [] k x e f = absurd (none-some x f)
 unput_there (zero ∷ es) (y ∷ ys) zero x e f = let same : y ≡ x = same_Some y x f in omega (arith, ap most_words same)
@@ -53,7 +52,7 @@ unput_there (zero ∷ es) (y ∷ ys) (suc k) x e f = omega (arith, unput_there e
 unput_there (suc a ∷ es) (y ∷ ys) (suc k) x e f = unput_there es ys k x e f
 
 -- and leaves the rest once it has one
-unput_set : (es : List ℕ) (xs : List Body) (k a : ℕ) (x : Body) → slice_get es k ≡ Some 0 → slice_get xs k ≡ Some x → unput (slice_set es k (suc a)) xs + most_words x ≡ unput es xs
+pub unput_set : (es : List ℕ) (xs : List Body) (k a : ℕ) (x : Body) → slice_get es k ≡ Some 0 → slice_get xs k ≡ Some x → unput (slice_set es k (suc a)) xs + most_words x ≡ unput es xs
 unput_set [] xs k a x e f = absurd (none-some 0 e)
 unput_set (e0 ∷ es) [] k a x e f = absurd (none-some x f)
 unput_set (zero ∷ es) (y ∷ ys) zero a x e f = let same : y ≡ x = same_Some y x f in omega (arith, ap most_words same)
@@ -61,7 +60,7 @@ unput_set (suc b ∷ es) (y ∷ ys) zero a x e f = absurd (omega (arith, same_So
 unput_set (zero ∷ es) (y ∷ ys) (suc k) a x e f = omega (arith, unput_set es ys k a x e f)
 unput_set (suc b ∷ es) (y ∷ ys) (suc k) a x e f = unput_set es ys k a x e f
 
-unmade_set : (es : List ℕ) (k a : ℕ) → slice_get es k ≡ Some 0 → unmade (slice_set es k (suc a)) < unmade es
+pub unmade_set : (es : List ℕ) (k a : ℕ) → slice_get es k ≡ Some 0 → unmade (slice_set es k (suc a)) < unmade es
 unmade_set [] k a e = absurd (none-some 0 e)
 unmade_set (zero ∷ es) zero a e = omega arith
 unmade_set (suc b ∷ es) zero a e = absurd (omega (arith, same_Some (suc b) 0 e))
@@ -83,10 +82,10 @@ short_node locals (nodes.Directed p sel) own short = short
 short_node locals (nodes.Prim name args implied handler) own short = short
 short_node locals _ own short = tt
 
-short_body : (bodies : List Body) (b : ℕ) → IsFit bodies b → HasNoBlocks (body_in bodies b) → AreShort 64 (body_in bodies b).nodes → AreShort 16 (body_in bodies b).nodes
+pub short_body : (bodies : List Body) (b : ℕ) → IsFit bodies b → HasNoBlocks (body_in bodies b) → AreShort 64 (body_in bodies b).nodes → AreShort 16 (body_in bodies b).nodes
 short_body bodies b fit plain short k node is = short_node (frame_locals (body_in bodies b)) node (own_node bodies b k node fit plain is) (short k node is)
 
-body_there : (bodies : List Body) (b : ℕ) → HasBody bodies b → slice_get bodies (b - 1) ≡ Some (body_in bodies b)
+pub body_there : (bodies : List Body) (b : ℕ) → HasBody bodies b → slice_get bodies (b - 1) ≡ Some (body_in bodies b)
 body_there bodies b given = got bodies (b - 1) _ (omega (arith, given.0, given.1))
   where
     got : (xs : List Body) (k : ℕ) (d : Body) → k < length xs → slice_get xs k ≡ Some (unwrap_or (slice_get xs k) d)

@@ -1,6 +1,6 @@
 -- A run begins, and comes to a trap.
-use Rattle.std.proofs.Common.{◌≡◌, ℕ, suc, ◌+◌, ◌-◌, ◌*◌, ◌<◌, ◌≤◌, refl, ◌∙◌, ap, sym, subst, arith, inl, inr}
-use Rattle.std.specs.Prelude.{◌⊎◌, ◌^◌, Option, Some, slice_get}
+use Rattle.std.proofs.Common.{◌≡◌, ℕ, ◌+◌, ◌≤◌, refl, ◌∙◌, ap, sym, subst, arith, inl, inr}
+use Rattle.std.specs.Prelude.{◌⊎◌, Some, slice_get}
 use Rattle.std.proofs.lemmas.Option.{same_Some, none-some, slice_get_within}
 use Rattle.self_terms.specs.declared.nodes.Node.{Node}
 use Rattle.self_terms.specs.declared.nodes.Node.TheVariants as nodes
@@ -12,16 +12,15 @@ use Rattle.plain_runs.specs.Host.{Host}
 use Rattle.plain_runs.specs.declared.status.Status.TheVariants.{Waiting}
 use Rattle.plain_runs.specs.Course.{with_machine}
 use Rattle.plain_begins.specs.Begins.{CanPark, AtPoll, Idle}
-use Rattle.plain_stretches.specs.Gate.{gated_run}
-use Rattle.plain_stretches.specs.Standing.{IsOn, left_of}
+use Rattle.plain_stretches.specs.Standing.{IsOn}
 use Rattle.plain_stretches.specs.Stretches.{IsBlockless, lacking, Halts, AtGoal, AtSend, AtEnd, AtLack}
 use Rattle.plain_stretches.proofs.Gated.{none_gated}
 use Rattle.plain_stretches.proofs.Joining.{runs_join}
 use Rattle.plain_stretches.proofs.Owned.{blockless_on}
 use Rattle.plain_stretches.proofs.Stretches.{polls_stretch, stretches_run}
-use Rattle.plain_turns.specs.Asking.{count, goes_back}
-use Rattle.plain_turns.specs.Resting.{Rests, IsGoing, IsAtTrap}
-use Rattle.plain_turns.specs.Turns.{RunsBegin, Comes, RunsCome, AtTrap, TrapsTell, ObjectsCount}
+use Rattle.plain_turns.specs.Asking.{goes_back}
+use Rattle.plain_turns.specs.Resting.{Rests}
+use Rattle.plain_turns.specs.Turns.{RunsBegin, RunsCome, TrapsTell, ObjectsCount}
 use Rattle.plain_turns.proofs.Formed.{run_forms}
 use Rattle.plain_turns.proofs.Back.{back_again}
 

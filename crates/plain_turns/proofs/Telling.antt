@@ -1,10 +1,9 @@
 -- What is found tells what the message meets.
-use Rattle.std.proofs.Common.{◌≡◌, ◌≢◌, ℕ, zero, suc, ◌+◌, ◌*◌, ◌<◌, ◌≤◌, refl, ◌∙◌, ap, sym, subst, arith, inl, inr}
+use Rattle.std.proofs.Common.{◌≡◌, ℕ, ◌+◌, ◌*◌, ◌≤◌, refl, ◌∙◌, ap, sym, subst, arith, inl, inr}
 use Rattle.std.specs.Prelude.{◌⊎◌, ◌&&◌, not, is_some, Bool, true, false, List, length, ◌∷◌, Option, Some, None, slice_get}
 use Rattle.std.proofs.lemmas.Bool.{le-ltb, lt-ltb}
 use Rattle.std.proofs.lemmas.Option.{same_Some, none-some}
 use Rattle.self_terms.specs.declared.bodies.Body.{Body}
-use Rattle.self_terms.specs.declared.errors.ErrorName.{ErrorName}
 use Rattle.self_terms.specs.declared.nodes.Node.{Node}
 use Rattle.self_terms.specs.declared.nodes.Node.TheVariants as nodes
 use Rattle.self_terms.specs.declared.nodes.Selector.{Selector}
@@ -14,7 +13,7 @@ use Rattle.self_terms.specs.declared.values.Value.TheVariants as values
 use Rattle.object_maps.specs.declared.maps.SlotKind.TheVariants.{Constant, Parent, Field, Assign, Method as MethodSlot}
 use Rattle.slot_lookup.specs.declared.sends.Found.{Found}
 use Rattle.slot_lookup.specs.declared.sends.Found.TheVariants.{NotUnderstood, One, Ambiguous}
-use Rattle.sparc_store.specs.Words.{Words, word_at}
+use Rattle.sparc_store.specs.Words.{word_at}
 use Rattle.source_model.specs.declared.objects.Content.TheVariants.{Method}
 use Rattle.source_model.specs.Formed.{IsWellFormed}
 use Rattle.source_model.specs.Messages.{Met, Holds, body_of}
@@ -34,7 +33,6 @@ use Rattle.plain_answers.specs.Found.{IsMethod}
 use Rattle.plain_answers.specs.Whole.{whole}
 use Rattle.plain_lookups.specs.Telling.{begins_at, IsEvaluated, FoundTells}
 use Rattle.plain_words.specs.Units.{owns_context}
-use Rattle.plain_steps.specs.Steps.{StandsFor}
 use Rattle.plain_stretches.specs.Gate.{is_blockless, may_enter}
 use Rattle.plain_stretches.specs.Stretches.{HasNoBlocks}
 

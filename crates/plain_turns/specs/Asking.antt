@@ -1,7 +1,6 @@
 -- What the host reads where a node has asked for a service.
-use Rattle.std.specs.Prelude.{◌≡◌, ℕ, ◌+◌, ◌-◌, ◌*◌, ◌≤◌, Option, Some, None, slice_get}
+use Rattle.std.specs.Prelude.{ℕ, ◌+◌, ◌-◌, ◌*◌, Option, Some, None, slice_get}
 use Rattle.self_terms.specs.declared.nodes.Node.{Node}
-use Rattle.self_terms.specs.declared.nodes.Node.TheVariants as nodes
 use Rattle.self_terms.specs.declared.nodes.Place.{Place}
 use Rattle.source_model.specs.Soundness.{body_in}
 use Rattle.source_model.specs.Step.{place_at}

@@ -1,8 +1,7 @@
 -- The line of a frame, part by part.
-use Rattle.std.proofs.Common.{◌≡◌, ℕ, zero, suc, ◌+◌, ◌-◌, ◌<◌, ◌≤◌, List, [], ◌∷◌, ◌++◌, length, get_or, take, drop, refl, ap, sym, ◌∙◌, arith, length-append, append_assoc, add-one, codes}
+use Rattle.std.proofs.Common.{◌≡◌, ℕ, zero, suc, ◌+◌, ◌-◌, ◌<◌, ◌≤◌, List, [], ◌∷◌, ◌++◌, length, get_or, take, drop, refl, ap, sym, ◌∙◌, arith, length-append, append_assoc, codes}
 use Rattle.std.proofs.lemmas.List.{append-nil, take_rest}
-use Rattle.std.specs.Prelude.{slice_get, Some, None, zip, map, flat_map, ◌==◌, false}
-use Rattle.std.specs.List.{join_with_byte}
+use Rattle.std.specs.Prelude.{slice_get, Some, None, flat_map, ◌==◌, false}
 use Rattle.self_terms.specs.declared.nodes.Place.{Place}
 use Rattle.source_model.specs.declared.objects.Core.{Core}
 use Rattle.source_model.specs.Names.{text_named}

@@ -1,5 +1,5 @@
 -- The lines of frames, as activations are shown, and how those of the source are shown.
-use Rattle.std.specs.Prelude.{ℕ, ◌+◌, ◌-◌, ◌<◌, ◌≤◌, Option, Some, None, option_map, unwrap_or, List, [], ◌∷◌, ◌++◌, length, map, zip, reverse, flat_map, slice_get, codes, decimal}
+use Rattle.std.specs.Prelude.{ℕ, ◌+◌, ◌<◌, ◌≤◌, Option, Some, None, option_map, unwrap_or, List, [], ◌∷◌, ◌++◌, length, map, zip, reverse, flat_map, codes, decimal}
 use Rattle.std.specs.List.{join_with_byte}
 use Rattle.self_terms.specs.declared.bodies.Body.{Body}
 use Rattle.source_model.specs.declared.objects.Core.{Core}

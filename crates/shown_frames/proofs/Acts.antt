@@ -1,5 +1,5 @@
 -- What the frames of an activity show.
-use Rattle.std.proofs.Common.{◌≡◌, ◌≢◌, ℕ, zero, suc, ◌+◌, ◌-◌, ◌*◌, ◌%◌, ◌<◌, refl, ap, sym, subst, ◌∙◌, Bool, arith}
+use Rattle.std.proofs.Common.{◌≡◌, ℕ, zero, suc, ◌+◌, ◌*◌, refl, ap, sym, subst, ◌∙◌, Bool, arith}
 use Rattle.std.specs.Prelude.{List, [], ◌∷◌, ◌++◌, length, map, reverse, Option, Some, None, option_map, unwrap_or, slice_get, nat_eq}
 use Rattle.std.proofs.lemmas.List.{map-append, reverse-append}
 use Rattle.std.proofs.lemmas.Bool.{eq-eqb, ne_eqb, cond-true, cond-false}
@@ -12,15 +12,12 @@ use Rattle.source_model.specs.Formed.{IsWellFormed}
 use Rattle.source_model.specs.Lines.{position_in}
 use Rattle.source_model.specs.Soundness.{body_in, room, AreCallers, IsActivity as IsWellActivity}
 use Rattle.heap_cells.specs.Laying.{Cells}
-use Rattle.heap_cells.specs.Reads.{ContextRead}
 use Rattle.heap_cells.specs.Source.{Made, Owner, Plain as without, Ended, Live}
 use Rattle.heap_cells.specs.Standing.{Places, IsValue, AreValues, IsOuter}
 use Rattle.heap_cells.proofs.Reading.{read_context}
 use Rattle.frame_walk.specs.Places.{Frame}
 use Rattle.frame_walk.specs.Raw.{Raw}
 use Rattle.raw_steps.specs.Stands.{Sense, IsActivation, AreActivations, HasLocals, makes_blocks}
-use Rattle.session_text.specs.declared.acts.ShownAct.{ShownAct}
-use Rattle.session_text.specs.declared.lines.ShownValue.{ShownValue}
 use Rattle.session_text.specs.Values.{as_shown}
 use Rattle.session_text.specs.Frames.{act_of, shown_of}
 use Rattle.shown_frames.specs.Listed.{words_up}

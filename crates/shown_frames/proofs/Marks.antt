@@ -1,13 +1,13 @@
 -- The position of an activation, by the mark of its frame.
-use Rattle.std.proofs.Common.{◌≡◌, ◌≢◌, ℕ, suc, ◌+◌, ◌<◌, refl, ap, sym, ◌∙◌, Bool, true, false, cond, arith}
-use Rattle.std.specs.Prelude.{List, [], ◌∷◌, length, Option, Some, None, slice_get, unwrap_or, nat_eq, ◌==◌}
+use Rattle.std.proofs.Common.{◌≡◌, ◌≢◌, ℕ, suc, ◌+◌, refl, ap, sym, ◌∙◌, Bool, true, false}
+use Rattle.std.specs.Prelude.{List, [], ◌∷◌, length, Some, None, slice_get, unwrap_or, nat_eq}
 use Rattle.std.proofs.lemmas.Bool.{eq-eqb, ne_eqb, eqb-true, eqb-false, cond-true, cond-false}
 use Rattle.source_model.specs.State.{Activation}
 use Rattle.source_model.specs.Lines.{position_in}
 use Rattle.heap_cells.specs.Source.{Made, Owner, Plain as without, Ended, Live}
 use Rattle.frame_walk.specs.Places.{Frame}
 use Rattle.raw_steps.specs.Stands.{Sense, IsActivation, AreActivations, HasLocals}
-use Rattle.shown_frames.specs.Showing.{position_of, position_at}
+use Rattle.shown_frames.specs.Showing.{position_of}
 
 -- as many frames as activations
 pub as_many : (wants : ℕ → Bool) (z : Sense) (at : ℕ) (all : List Activation) (frames : List Frame) → AreActivations wants z at all frames → length frames ≡ length all

@@ -1,6 +1,6 @@
 -- What the word of a value shows.
-use Rattle.std.proofs.Common.{◌≡◌, ◌≢◌, ℕ, zero, suc, ◌+◌, ◌-◌, ◌*◌, ◌/◌, ◌%◌, ◌^◌, ◌<◌, ◌≤◌, refl, ap, sym, subst, ◌∙◌, Bool, true, false, ◌&&◌, arith}
-use Rattle.std.specs.Prelude.{List, [], ◌∷◌, length, Option, Some, None, map, is_some, slice_get, unwrap_or, nat_eq, nat_lt, nat_le, ℤ, pos, negsuc}
+use Rattle.std.proofs.Common.{◌≡◌, ℕ, zero, suc, ◌+◌, ◌-◌, ◌*◌, ◌/◌, ◌%◌, ◌^◌, ◌≤◌, refl, ap, sym, subst, ◌∙◌, Bool, true, false, ◌&&◌, arith}
+use Rattle.std.specs.Prelude.{List, [], ◌∷◌, Option, Some, map, is_some, slice_get, unwrap_or, nat_eq, nat_lt, nat_le, ℤ, pos, negsuc}
 use Rattle.std.proofs.lemmas.Bool.{eq-eqb, ne_eqb, cond-true, cond-false, lt-ltb, le-ltb, le-leb}
 use Rattle.std.proofs.lemmas.Option.{slice_get_within}
 use Rattle.self_terms.specs.Words.{IsSmall, word_of, int_of}
@@ -13,9 +13,9 @@ use Rattle.object_maps.specs.Slots.{Slots, slots_in, slot_named}
 use Rattle.sparc_store.specs.Words.{Words as Store, word_at}
 use Rattle.source_model.specs.State.{Activation, Activity, Running, State}
 use Rattle.source_model.specs.Lines.{position_in}
-use Rattle.heap_cells.specs.Shapes.{Cell, Plain, Vector, Text, Block, size, map_in}
+use Rattle.heap_cells.specs.Shapes.{Cell, Plain, Vector, Text, Block, map_in}
 use Rattle.heap_cells.specs.Laying.{Cells, Laid}
-use Rattle.heap_cells.specs.Source.{Thing, Slotted, Elements, Bytes, Made, Owner, Plain as without, Ended, Live}
+use Rattle.heap_cells.specs.Source.{Thing, Slotted, Elements, Bytes, Made, Plain as without, Ended, Live}
 use Rattle.heap_cells.specs.Standing.{Places, RefersTo, IsThing, IsValue, AreValues}
 use Rattle.heap_cells.specs.Heaps.{IsHeap, IsBlockMap, IsTold}
 use Rattle.heap_cells.proofs.Numbered.{got_if}
@@ -23,8 +23,7 @@ use Rattle.heap_cells.proofs.Stepping.{map_of_cell}
 use Rattle.heap_cells.proofs.Reading.{heap_sound, integer_aligned, read_block, read_ended, read_context}
 use Rattle.frame_walk.specs.Places.{Frame}
 use Rattle.frame_walk.specs.Raw.{Raw, Thread, Going}
-use Rattle.raw_steps.specs.Stands.{Sense, Stands, IsActivity, AreActivations, makes_blocks}
-use Rattle.session_text.specs.declared.lines.ShownValue.{ShownValue}
+use Rattle.raw_steps.specs.Stands.{Sense, IsActivity, AreActivations, makes_blocks}
 use Rattle.session_text.specs.declared.lines.ShownValue.TheVariants as shown
 use Rattle.session_text.specs.Values.{as_shown}
 use Rattle.shown_frames.specs.Showing.{position_of, position_at, mark_at, is_block_map, reference_shown, value_shown}

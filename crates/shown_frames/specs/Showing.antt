@@ -1,5 +1,5 @@
 -- What words show, where frames in words are those of an activity: values, and activations.
-use Rattle.std.specs.Prelude.{ℕ, ◌+◌, ◌/◌, ◌%◌, ◌==◌, ◌&&◌, nat_le, Bool, true, false, if◌then◌else◌, List, [], ◌∷◌, length, map, reverse, Some, is_some}
+use Rattle.std.specs.Prelude.{ℕ, ◌+◌, ◌/◌, ◌%◌, ◌==◌, ◌&&◌, nat_le, Bool, true, false, if◌then◌else◌, List, [], ◌∷◌, length, map, reverse, is_some}
 use Rattle.self_terms.specs.declared.bodies.Body.{Body}
 use Rattle.self_terms.specs.Words.{int_of}
 use Rattle.object_maps.specs.Layout.{map_at, number_at}

@@ -1,4 +1,4 @@
-use Rattle.std.proofs.Common.{◌+◌, ◌-◌, ◌*◌, [], ◌∷◌, ◌++◌, ap, ◌∙◌, arith}
+use Rattle.std.proofs.Common.{◌+◌, ◌-◌, [], ◌∷◌, ◌++◌, ap, ◌∙◌, arith}
 use Rattle.plain_host.specs.Hosted.{host}
 use Rattle.shown_frames.specs.Listed.{words_down}
 use Rattle.plain_show.proofs.WordLists.{down_next}

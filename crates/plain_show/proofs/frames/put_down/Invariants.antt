@@ -1,4 +1,4 @@
-use Rattle.std.proofs.Common.{◌≡◌, ◌+◌, ◌-◌, ◌*◌, ◌++◌, vec_len, vec_capacity}
+use Rattle.std.proofs.Common.{◌≡◌, ◌-◌, ◌++◌, vec_len, vec_capacity}
 use Rattle.plain_host.specs.Hosted.{host}
 use Rattle.shown_frames.specs.Listed.{words_down}
 use Rattle.plain_show.proofs.frames.put_down.Given as goal

@@ -1,4 +1,4 @@
-use Rattle.std.proofs.Common.{◌<◌, ◌≤◌, ◌+◌, [], ◌∷◌, ◌++◌, length, ap, sym, subst, ◌∙◌}
+use Rattle.std.proofs.Common.{◌<◌, ◌≤◌, [], ◌∷◌, ◌++◌, length, ap, sym, subst, ◌∙◌}
 use Rattle.self_terms.specs.declared.bodies.Body.{Body}
 use Rattle.sparc_store.specs.Windows.{saved_at}
 use Rattle.source_model.specs.Soundness.{body_in}

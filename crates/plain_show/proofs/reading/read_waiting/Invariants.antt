@@ -1,4 +1,4 @@
-use Rattle.std.proofs.Common.{◌≡◌, ◌≤◌, ◌+◌, ◌-◌, ◌++◌, [], length}
+use Rattle.std.proofs.Common.{◌≡◌, ◌-◌, ◌++◌, [], length}
 use Rattle.sparc_store.specs.Windows.{saved_at}
 use Rattle.frame_walk.specs.Walk.{activations}
 use Rattle.plain_runs.specs.Host.{descriptor_at}

@@ -1,4 +1,3 @@
-use Rattle.std.proofs.Common.{arith}
 use Rattle.plain_show.proofs.Shows.{position_found, position_next}
 use Rattle.plain_show.proofs.showing.position_at.Goals as goal
 

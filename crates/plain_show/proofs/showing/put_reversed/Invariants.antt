@@ -1,8 +1,7 @@
-use Rattle.std.proofs.Common.{◌≡◌, ◌+◌, ◌-◌, ◌*◌, ◌++◌, take, length}
+use Rattle.std.proofs.Common.{◌≡◌, take, length}
 use Rattle.std.specs.Prelude.{map, reverse}
 use Rattle.plain_host.specs.Hosted.{host}
-use Rattle.shown_frames.specs.Listed.{words_up}
-use Rattle.shown_frames.specs.Showing.{value_shown, act_shown}
+use Rattle.shown_frames.specs.Showing.{value_shown}
 use Rattle.plain_show.proofs.showing.put_reversed.Given as goal
 
 abbrev pub invariant-loop-j : goal.invariant-loop-j

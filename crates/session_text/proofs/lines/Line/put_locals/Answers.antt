@@ -1,4 +1,4 @@
-use Rattle.std.proofs.Common.{◌+◌, ◌++◌, get_or, drop, sym, ◌∙◌, pos, arith}
+use Rattle.std.proofs.Common.{◌+◌, get_or, drop, sym, ◌∙◌, pos, arith}
 use Rattle.source_model.specs.Lines.{local_names}
 use Rattle.session_text.specs.declared.lines.ShownValue.TheVariants as shown
 use Rattle.session_text.specs.Frames.{local_text, locals_text}

@@ -1,0 +1,4 @@
+pub mod Units
+pub mod Meeting
+pub mod Beginning
+pub mod Flushing

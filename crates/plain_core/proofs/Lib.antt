@@ -1,0 +1,3 @@
+pub mod Serving
+pub mod Joining
+pub mod Rounds

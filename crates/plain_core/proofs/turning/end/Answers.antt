@@ -1,0 +1,7 @@
+use Rattle.std.proofs.Common.{◌≡◌, ◌⊎◌, ◌<◌, ◌≤◌, ◌+◌, ◌*◌, ◌-◌, ◌^◌, ℕ, suc, true, false, Some, None, Ok, refl, ◌∙◌, ap, sym, subst, arith}
+use Rattle.plain_host.specs.Hosted.{host}
+use Rattle.plain_core.proofs.Serving.{ended_by}
+use Rattle.plain_core.proofs.turning.end.Goals as goal
+
+pub returns : goal.returns
+returns c = ended_by c.end.ensures c.requires.at

@@ -1,0 +1,54 @@
+use Rattle.std.proofs.Common.{◌≡◌, ℕ, ◌^◌, refl, ◌∙◌, ap, sym, subst, arith}
+use Rattle.sparc_machine.specs.State.{MachineState}
+use Rattle.sparc_machine.specs.declared.event.Event.{Event}
+use Rattle.sparc_machine.specs.declared.event.Event.TheVariants as events
+use Rattle.plain_host.specs.Hosted.{host}
+use Rattle.plain_words.specs.Going.{Goes}
+use Rattle.plain_runs.specs.Host.{Host}
+use Rattle.plain_runs.specs.Course.{with_machine}
+use Rattle.source_model.specs.State.{State}
+use Rattle.plain_turns.specs.Resting.{IsGoing, IsAtTrap}
+use Rattle.plain_turns.specs.Asking.{count}
+use Rattle.plain_turns.specs.Turns.{Comes}
+use Rattle.plain_turns.proofs.Running.{runs_come}
+use Rattle.plain_core.specs.Turning.{Came, Went}
+use Rattle.plain_core.proofs.turning.go.Goals as goal
+
+comes : (h : Host) (from : State) (target : ℕ) (g : IsGoing h from target) → Comes h from target 1099511627776 g
+comes h from target g = runs_come h from target 1099511627776 g (omega arith)
+
+same_trap : (a b : ℕ) (x : Event) → x ≡ events.Trap a → x ≡ events.Trap b → a ≡ b
+same_trap a b x e f = let both : events.Trap a ≡ events.Trap b = sym e ∙ f in cc
+
+came_to : (h to : Host) (trap : ℕ) (from : State) (target : ℕ) (g : IsGoing h from target) (k : Comes h from target 1099511627776 g) → to ≡ with_machine h k.to → k.trap ≡ trap → Came h to trap from target g
+came_to h to trap from target g k is same =
+    let P : Host → Type 0 = λ y. Came h y trap from target g in
+    let Q : ℕ → Type 0 = λ t. IsAtTrap (with_machine h k.to) t from target in
+    subst P (sym is) (record { at = subst Q same k.at; counts = k.counts })
+
+pub run-requires : goal.run-requires
+run-requires c = (comes _ c.requires.0 c.args._target c.requires.1).runs.lawful
+
+pub unreachable-requires : goal.unreachable-requires
+unreachable-requires c =
+    let k = comes _ c.requires.0 c.args._target c.requires.1 in
+    let t = k.runs.tells _ c.run.result c.run.ensures.ran in
+    let both : events.Trap k.trap ≡ events.Went = sym t.event ∙ c.in-Went.is in
+    cc
+
+pub returns-clause-came : goal.returns-clause-came
+returns-clause-came c = λ from g.
+    let k = comes _ from c.args._target g in
+    let t = k.runs.tells _ c.run.result c.run.ensures.ran in
+    let is : host c.run.new.self ≡ with_machine (host c.args.hosting.now) k.to = c.run.ensures.same ∙ ap (with_machine (host c.args.hosting.now)) t.machine in
+    came_to (host c.args.hosting.now) (host c.run.new.self) c.in-Trap.number from c.args._target g k is (same_trap k.trap c.in-Trap.number c.run.result.event t.event c.in-Trap.is)
+
+pub returns-clause-went : goal.returns-clause-went
+returns-clause-went c =
+    let k = comes _ c.requires.0 c.args._target c.requires.1 in
+    let t = k.runs.tells _ c.run.result c.run.ensures.ran in
+    record {
+      instructions = k.instructions;
+      goes = subst (λ (m : MachineState). Goes k.instructions (host c.args.hosting.now).machine m) (sym t.machine) k.goes;
+      is = c.run.ensures.same;
+    }

@@ -1,0 +1,7 @@
+use Rattle.std.proofs.Common.{◌≡◌, ◌⊎◌, ◌<◌, ◌≤◌, ◌+◌, ◌*◌, ◌-◌, ◌^◌, ℕ, suc, true, false, Some, None, Ok, refl, ◌∙◌, ap, sym, subst, arith}
+use Rattle.plain_host.specs.Hosted.{host}
+use Rattle.plain_core.proofs.Serving.{asked}
+use Rattle.plain_core.proofs.turning.send.Goals as goal
+
+pub find-requires : goal.find-requires
+find-requires c = record { asked = asked _ _ _ c.requires.at c.requires.room }

@@ -1,0 +1,3 @@
+-- A session in plain code.
+pub mod Turning
+pub mod Running

@@ -1,0 +1,11 @@
+// Runs of a session in plain code.
+//
+// Model: machine and host are a `Hosting` of plain_host; `Rests` of plain_turns says for which state of the source they stand.
+// Promise: a run of so many steps leaves them standing for what the source has after as many, where what isn't built yet is one gate in front of
+// the step; and they get there by instructions and services alone.
+#![tactic(auto)]
+
+mod running;
+mod turning;
+
+pub use running::run;

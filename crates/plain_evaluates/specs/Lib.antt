@@ -1,0 +1,4 @@
+-- Activations that plain code enters, with contexts and without, of methods and of blocks.
+pub mod Evaluates
+pub mod Refusing
+pub mod Paying

@@ -1,0 +1,12 @@
+// Sends in plain code against the source: a message that a method or a block's own method meets, with a context and without.
+//
+// Model: `calls` (specs/Services.antt of plain_runs) is what service 1 does to machine and host where a method answers: the machine stands at
+// the first word of the method's unit. `DoesStep` (specs/Steps.antt of plain_steps) says that words do the source's step.
+// Promise: laws alone.
+#![tactic(auto)]
+
+mod laws;
+
+pub use laws::{
+    blocks_are_entered, entries_are_refused, entries_pay, marks_decide, methods_are_entered,
+};

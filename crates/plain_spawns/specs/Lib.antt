@@ -1,0 +1,2 @@
+-- Activities that begin with an activation that has a context.
+pub mod Spawns
