@@ -1,5 +1,5 @@
 -- The words of all units, counted body by body.
-use Rattle.std.proofs.Common.{◌≡◌, ap, ◌∙◌, sym, subst, ℕ, zero, suc, ◌+◌, ◌<◌, ◌≤◌, List, [], ◌∷◌, length, drop, arith}
+use Rattle.std.proofs.Common.{◌≡◌, ap, sym, ℕ, zero, suc, ◌+◌, ◌<◌, ◌≤◌, List, [], ◌∷◌, drop, arith}
 use Rattle.std.specs.Prelude.{false, nat_le, Some, slice_get}
 use Rattle.std.proofs.lemmas.Bool.{lt-leb}
 use Rattle.self_terms.specs.declared.bodies.Body.{Body}

@@ -1,23 +1,20 @@
 -- The host over an opened world rests for the state with which a session begins.
-use Rattle.std.proofs.Common.{◌≡◌, ◌≢◌, refl, sym, ap, subst, ◌∙◌, ℕ, zero, suc, ◌-◌, ◌<◌, ◌≤◌, List, [], ◌∷◌, length, inr, arith}
-use Rattle.std.specs.Prelude.{Option, Some, None, replicate, slice_get, slice_index}
+use Rattle.std.proofs.Common.{◌≡◌, refl, sym, ap, subst, ◌∙◌, ℕ, zero, suc, ◌-◌, List, length, inr, arith}
+use Rattle.std.specs.Prelude.{Some, replicate, slice_get}
 use Rattle.std.proofs.lemmas.List.{length-replicate}
 use Rattle.std.proofs.lemmas.List.Elements.{All-nil}
 use Rattle.std.proofs.lemmas.Option.{slice_get-get_or}
-use Rattle.sparc_store.specs.Words.{Words, IsWithin, word_at}
+use Rattle.sparc_store.specs.Words.{Words, IsWithin}
 use Rattle.source_model.specs.Formed.{IsWellFormed}
 use Rattle.source_model.specs.State.{State}
-use Rattle.heap_cells.proofs.Numbered.{got_if}
 use Rattle.plain_runs.specs.Host.{Host, raw_of}
 use Rattle.plain_runs.specs.Sound.{IsWindow, IsRunnable, IsHosted}
-use Rattle.plain_runs.specs.declared.status.Status.{Status}
 use Rattle.plain_begins.specs.Begins.{Idle}
 use Rattle.plain_steps.specs.Steps.{NamesSums, StandsFor}
 use Rattle.plain_turns.specs.Resting.{Rests}
 use Rattle.plain_host.specs.Opened.{opened_host, IsLoaded}
 use Rattle.source_model.specs.Soundness.{body_in}
-use Rattle.world_build.specs.Worlds.{World}
-use Rattle.world_heap.specs.Heaps.{places, heap_of}
+use Rattle.world_heap.specs.Heaps.{places}
 use Rattle.world_heap.specs.Images.{Image}
 use Rattle.world_heap.specs.Stands.{Stands}
 use Rattle.world_state.specs.Begun.{begun}
