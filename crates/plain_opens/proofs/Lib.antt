@@ -1,3 +1,3 @@
 pub mod Fixed
-pub mod Opening
+pub mod Resting
 pub mod Counting

@@ -1,4 +1,4 @@
-use Rattle.plain_opens.proofs.Opening.{opened_rests}
+use Rattle.plain_opens.proofs.Resting.{opened_rests}
 use Rattle.plain_opens.proofs.laws.worlds_open.Goals as goal
 
 pub returns : goal.returns
