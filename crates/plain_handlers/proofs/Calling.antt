@@ -1,6 +1,6 @@
 -- A message that a method answers.
 use Rattle.std.proofs.Common.{◌≡◌, ◌≢◌, ℕ, zero, suc, ◌+◌, ◌-◌, ◌<◌, ◌≤◌, refl, ◌∙◌, ap, sym, subst, arith}
-use Rattle.std.specs.Prelude.{false, ◌∷◌, List, [], length, Some, slice_get, ◌++◌, slice_set}
+use Rattle.std.specs.Prelude.{false, ◌∷◌, List, [], length, Some, is_some, slice_get, ◌++◌, slice_set}
 use Rattle.self_terms.specs.declared.nodes.Node.{Node}
 use Rattle.self_terms.specs.Depths.{depth}
 use Rattle.sparc_store.specs.Words.{Words}
@@ -11,7 +11,7 @@ use Rattle.source_model.specs.State.{State}
 use Rattle.raw_steps.specs.Stands.{Sense, Follows as RawFollows, makes_blocks}
 use Rattle.plain_words.specs.Moves.{registers_from}
 use Rattle.plain_words.specs.Showing.{viewed}
-use Rattle.plain_words.specs.Units.{frame_locals, owns_context, initial_words}
+use Rattle.plain_words.specs.Units.{frame_locals, owns_context, of_block, initial_words}
 use Rattle.plain_words.proofs.Shown.{no_scratch}
 use Rattle.plain_runs.specs.Host.{Host, raw_of, descriptor_at, seen, threads_from}
 use Rattle.plain_runs.specs.Units.{HasUnit}
@@ -75,9 +75,9 @@ record AtMethod (h : Host) (b n c at older : ℕ) (node : Node) : Type 0 where
   called : IsCalled h b n c at node
   deep : called.view.older ≡ older
 
-at_method : (z : Sense) (h : Host) (s : State) (b n : ℕ) (node : Node) (args name : ℕ) (met : Met) (r : RunsAt h b n node) (mt : MachineState) (q : IsMessaged z h s b n node args name met r mt) → CanGo h → (c goal cost at holder : ℕ) → HasUnit h c at → owns_context (body_in h.bodies c) ≡ false
+at_method : (z : Sense) (h : Host) (s : State) (b n : ℕ) (node : Node) (args name : ℕ) (met : Met) (r : RunsAt h b n node) (mt : MachineState) (q : IsMessaged z h s b n node args name met r mt) → CanGo h → (c goal cost at holder : ℕ) → HasUnit h c at → owns_context (body_in h.bodies c) ≡ false → of_block (body_in h.bodies c) ≡ false
     → (let to = machine_called h mt goal cost at holder in SettledTo h to goal → StillThere h to b r.view.older → AtMethod (with_machine h to) b n c at r.view.older node)
-at_method z h s b n node args name met r mt q can c goal cost at holder unit plain st still =
+at_method z h s b n node args name met r mt q can c goal cost at holder unit plain method st still =
     let to = machine_called h mt goal cost at holder in
     let low : SameCode h.machine.memory to.memory = λ x small. st.memory.others x (λ e. absurd (omega (arith, e, small))) (λ e. absurd (omega (arith, e, small))) in
     let behind = q.behind in
@@ -92,6 +92,7 @@ at_method z h s b n node args name met r mt q can c goal cost at holder unit pla
         stands = record { here = refl; next = refl };
         unit = unit_kept h to c at low unit;
         plain = plain;
+        method = method;
       };
       deep = still.deep;
     }
@@ -177,7 +178,7 @@ threads_called z h s b n node args name met r mt q can c holder at goal cost som
     ∙ ap (λ y. slice_set ts h.current (Going (y ∷ frame_at f.next q.words.rest f ∷ callers_of h r.view.older))) (frame_begun z h s b n node args name met r mt q can c holder at goal cost some same)
 
 pub methods_answer_messages : MethodsAnswerMessages
-methods_answer_messages z h s b n node args name met r mt q stood can o c holder at meets_it low object unit plain some same room goal cost few =
+methods_answer_messages z h s b n node args name met r mt q stood can o c holder at meets_it low object unit plain none some same room goal cost few =
     let m = h.machine in
     let mv = q.moved in
     let x = body_in h.bodies c.0 in
@@ -185,7 +186,7 @@ methods_answer_messages z h s b n node args name met r mt q stood can o c holder
     let hm = with_machine h m1 in
     let st = call_settles z h s b n node args name met r mt q can goal cost at holder few in
     let still = settles h m1 b goal r.view can.hosted can.runs st in
-    let method = at_method z h s b n node args name met r mt q can c.0 goal cost at holder unit plain st still in
+    let method = at_method z h s b n node args name met r mt q can c.0 goal cost at holder unit plain (ap is_some none) st still in
     let called = method.called in
     let room1 : suc called.view.older < 4096 = omega (arith, room, method.deep) in
     let g = in_method hm b n c.0 at node called room1 some in
