@@ -1,10 +1,8 @@
 -- Turns follow one another.
-use Rattle.std.proofs.Common.{◌≡◌, ℕ, zero, suc, ◌+◌, ◌-◌, ◌<◌, ◌≤◌, refl, ◌∙◌, ap, sym, subst, arith}
+use Rattle.std.proofs.Common.{◌≡◌, ℕ, ◌+◌, ◌<◌, refl, ◌∙◌, ap, sym, subst, arith}
 use Rattle.std.specs.Prelude.{Some, None}
 use Rattle.source_model.specs.State.{State}
 use Rattle.plain_runs.specs.Host.{Host}
-use Rattle.plain_runs.specs.Course.{with_machine}
-use Rattle.plain_turns.specs.Asking.{count}
 use Rattle.plain_turns.specs.Events.{Reaches, Here, Steps, Services}
 use Rattle.plain_turns.specs.Resting.{IsGoing, IsAtTrap, HasRun}
 use Rattle.plain_turns.specs.Rooms.{unmade}

@@ -1,5 +1,5 @@
 -- Runs of turns.
-use Rattle.std.proofs.Common.{◌≡◌, ◌≢◌, ℕ, ◌+◌, ◌<◌, ◌≤◌, OnOk, Result, Ok, Err, refl, ◌∙◌, ap, sym, subst, arith}
+use Rattle.std.proofs.Common.{◌≡◌, ℕ, ◌+◌, ◌≤◌, OnOk, Result, Ok, Err, refl, ◌∙◌, ap, sym, subst, arith}
 use Rattle.std.specs.Prelude.{Option, Some, None}
 use Rattle.source_model.specs.State.{State}
 use Rattle.plain_runs.specs.Host.{Host}
@@ -8,7 +8,7 @@ use Rattle.plain_turns.specs.Events.{Here, Services, Begins}
 use Rattle.plain_turns.specs.Resting.{Rests, IsGoing, IsAtTrap, HasRun}
 use Rattle.plain_turns.proofs.Running.{runs_begin}
 use Rattle.plain_core.specs.Running.{CanRun, HasRunOn, IsReached}
-use Rattle.plain_core.specs.Turning.{CanGoOn, StandsAt, Came, Went, Next, TurnsOn, still}
+use Rattle.plain_core.specs.Turning.{Went, Next}
 use Rattle.plain_core.proofs.Joining.{by_words, joined}
 
 pub both_ok : {A E : Type 0} (r : Result A E) (X Y Z : Type 0) → OnOk r X → OnOk r Y → (X → Y → Z) → OnOk r Z

@@ -1,6 +1,6 @@
 -- Each service as a turn.
 use Rattle.std.proofs.Common.{◌≡◌, ◌≢◌, ℕ, zero, suc, ◌+◌, ◌*◌, ◌-◌, ◌%◌, ◌<◌, ◌≤◌, List, [], ◌∷◌, refl, ◌∙◌, ap, sym, subst, arith, inl, inr}
-use Rattle.std.specs.Prelude.{◌⊎◌, true, false, Option, Some, None, slice_get, get_or, length}
+use Rattle.std.specs.Prelude.{true, false, Some, None, slice_get, get_or, length}
 use Rattle.self_terms.specs.declared.errors.ErrorName.{ErrorName}
 use Rattle.self_terms.specs.declared.errors.ErrorName.TheVariants as errors
 use Rattle.self_terms.specs.declared.values.BodyId.{BodyId}
@@ -9,8 +9,7 @@ use Rattle.slot_lookup.specs.declared.sends.Found.TheVariants.{One}
 use Rattle.source_model.specs.Soundness.{body_in, HasBody}
 use Rattle.source_model.specs.State.{State}
 use Rattle.sparc_store.specs.Words.{Words, HasWord}
-use Rattle.sparc_machine.specs.State.{MachineState, IsWhole}
-use Rattle.self_terms.specs.declared.nodes.Node.{Node}
+use Rattle.sparc_machine.specs.State.{IsWhole}
 use Rattle.self_terms.specs.declared.nodes.Place.{Place}
 use Rattle.self_terms.specs.declared.nodes.Selector.{Selector}
 use Rattle.std.specs.Option.{option_and_then}
@@ -28,7 +27,7 @@ use Rattle.plain_answers.specs.Whole.{whole}
 use Rattle.plain_units.specs.Putting.{IsPut}
 use Rattle.plain_stretches.specs.Gate.{is_blockless}
 use Rattle.plain_turns.specs.Asking.{count, node_here, place_here, place_before, found_here, behind_poll, goes_back}
-use Rattle.plain_turns.specs.Events.{Serves, Waits, Answers, Assigns, Calls, Puts, Misses, Overflows, Unbuilt, Performs, Returns, Ends}
+use Rattle.plain_turns.specs.Events.{Waits, Answers, Assigns, Calls, Puts, Misses, Overflows, Unbuilt, Performs, Returns, Ends}
 use Rattle.plain_turns.specs.Resting.{IsAtTrap}
 use Rattle.plain_turns.specs.Turns.{IsAsked, AtTrap}
 use Rattle.plain_turns.proofs.Running.{traps_tell, objects_count}

@@ -1,5 +1,5 @@
 -- What the calls inside a run do. Used by contracts of private functions alone.
-use Rattle.std.specs.Prelude.{◌≡◌, ℕ, suc, ◌+◌, ◌-◌, ◌<◌, ◌≤◌, ◌^◌, Option, Some, None}
+use Rattle.std.specs.Prelude.{◌≡◌, ℕ, suc, ◌+◌, ◌-◌, ◌<◌, ◌≤◌, Option, Some, None}
 use Rattle.source_model.specs.State.{State}
 use Rattle.plain_words.specs.Going.{Goes}
 use Rattle.plain_runs.specs.Host.{Host}

@@ -1,6 +1,6 @@
 -- A message that a method answers.
 use Rattle.std.proofs.Common.{◌≡◌, ◌≢◌, ℕ, zero, suc, ◌+◌, ◌-◌, ◌<◌, ◌≤◌, refl, ◌∙◌, ap, sym, subst, arith}
-use Rattle.std.specs.Prelude.{false, ◌∷◌, List, [], length, is_some, Some, slice_get, ◌++◌, slice_set}
+use Rattle.std.specs.Prelude.{false, ◌∷◌, List, [], length, Some, is_some, slice_get, ◌++◌, slice_set}
 use Rattle.self_terms.specs.declared.nodes.Node.{Node}
 use Rattle.self_terms.specs.Depths.{depth}
 use Rattle.sparc_store.specs.Words.{Words}

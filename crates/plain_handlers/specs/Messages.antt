@@ -1,5 +1,5 @@
 -- Messages at a trap, whoever put them there: the words of a node that sends, or the host.
-use Rattle.std.specs.Prelude.{◌≡◌, ℕ, suc, ◌+◌, ◌*◌, ◌^◌, ◌<◌, ◌≤◌, false, List, drop, length, None, Some, slice_get}
+use Rattle.std.specs.Prelude.{◌≡◌, ℕ, suc, ◌+◌, ◌*◌, ◌^◌, ◌<◌, ◌≤◌, false, List, drop, length, Some, None, slice_get}
 use Rattle.self_terms.specs.declared.errors.ErrorName.{ErrorName}
 use Rattle.self_terms.specs.declared.errors.ErrorName.TheVariants as errors
 use Rattle.self_terms.specs.declared.nodes.Node.{Node}
@@ -61,8 +61,7 @@ abbrev pub AssignmentsAnswerMessages : Type 0
 AssignmentsAnswerMessages = (z : Sense) (h : Host) (s : State) (b n : ℕ) (node : Node) (args name : ℕ) (met : Met) (r : RunsAt h b n node) (to : MachineState) → IsMessaged z h s b n node args name met r to → StandsFor z h s → CanGo h
     → (holder place : ℕ) → IsAssignment z (raw_of h) s met name holder place → 0 < args → (goal cost : ℕ) → goal ≤ 1000000000 → DoesStep z (assigns goal cost (holder + 7 + 4 * place) (with_machine h to)) s
 
--- Where it meets a method of an object, whose body is no block's, whose activations have no context, and whose unit stands at an address, the words
--- there do the step.
+-- Where it meets a method of an object, which is no block's, whose activations have no context, and whose unit stands at an address, the words there do the step.
 abbrev pub MethodsAnswerMessages : Type 0
 MethodsAnswerMessages = (z : Sense) (h : Host) (s : State) (b n : ℕ) (node : Node) (args name : ℕ) (met : Met) (r : RunsAt h b n node) (to : MachineState) → IsMessaged z h s b n node args name met r to → StandsFor z h s → CanGo h
     → (o : ℕ) (c : BodyId) (holder at : ℕ) → met ≡ Holds o (Method c) → o < length s.things → slice_get z.places.objects o ≡ Some holder → HasUnit h c.0 at

@@ -1,4 +1,3 @@
-use Rattle.std.proofs.Common.{◌≡◌, ◌≤◌, ℕ, refl, ◌∙◌, arith}
 use Rattle.plain_host.specs.Hosted.{host}
 use Rattle.plain_core.proofs.Rounds.{both_ok, starts, has_run}
 use Rattle.plain_core.proofs.running.run.Goals as goal

@@ -1,4 +1,4 @@
-use Rattle.std.proofs.Common.{◌≡◌, ◌≤◌, ℕ, refl, ◌∙◌, arith}
+use Rattle.std.proofs.Common.{refl, ◌∙◌, arith}
 use Rattle.plain_host.specs.Hosted.{host}
 use Rattle.plain_core.proofs.Rounds.{none_at, at_trap, goes_reached, still_room, on_reached}
 use Rattle.plain_core.proofs.running.run_to.Goals as goal

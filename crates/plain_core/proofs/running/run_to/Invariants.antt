@@ -1,4 +1,4 @@
-use Rattle.std.proofs.Common.{◌≡◌, ◌≤◌, ℕ}
+use Rattle.std.proofs.Common.{◌≡◌, ◌≤◌}
 use Rattle.plain_host.specs.Hosted.{host}
 use Rattle.source_model.specs.State.{State}
 use Rattle.plain_turns.specs.Resting.{IsGoing}

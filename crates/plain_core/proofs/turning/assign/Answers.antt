@@ -1,5 +1,4 @@
-use Rattle.std.proofs.Common.{◌≡◌, ◌⊎◌, ◌<◌, ◌≤◌, ◌+◌, ◌*◌, ◌-◌, ◌^◌, ℕ, suc, true, false, Some, None, Ok, refl, ◌∙◌, ap, sym, subst, arith}
-use Rattle.plain_host.specs.Hosted.{host}
+use Rattle.std.proofs.Common.{arith}
 use Rattle.plain_core.proofs.Serving.{word_small, assigned_there, assigned}
 use Rattle.plain_core.proofs.turning.assign.Goals as goal
 

@@ -1,5 +1,4 @@
-use Rattle.std.proofs.Common.{◌≡◌, ◌⊎◌, ◌<◌, ◌≤◌, ◌+◌, ◌*◌, ◌-◌, ◌^◌, ℕ, suc, true, false, Some, None, Ok, refl, ◌∙◌, ap, sym, subst, arith}
-use Rattle.plain_host.specs.Hosted.{host}
+use Rattle.std.proofs.Common.{◌≡◌, Some, None, ◌∙◌, sym}
 use Rattle.plain_core.proofs.Serving.{method_there, entry_there}
 use Rattle.plain_core.proofs.turning.enter.Goals as goal
 

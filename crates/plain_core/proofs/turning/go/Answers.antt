@@ -1,4 +1,4 @@
-use Rattle.std.proofs.Common.{◌≡◌, ℕ, ◌^◌, refl, ◌∙◌, ap, sym, subst, arith}
+use Rattle.std.proofs.Common.{◌≡◌, ℕ, ◌∙◌, ap, sym, subst, arith}
 use Rattle.sparc_machine.specs.State.{MachineState}
 use Rattle.sparc_machine.specs.declared.event.Event.{Event}
 use Rattle.sparc_machine.specs.declared.event.Event.TheVariants as events
@@ -8,10 +8,9 @@ use Rattle.plain_runs.specs.Host.{Host}
 use Rattle.plain_runs.specs.Course.{with_machine}
 use Rattle.source_model.specs.State.{State}
 use Rattle.plain_turns.specs.Resting.{IsGoing, IsAtTrap}
-use Rattle.plain_turns.specs.Asking.{count}
 use Rattle.plain_turns.specs.Turns.{Comes}
 use Rattle.plain_turns.proofs.Running.{runs_come}
-use Rattle.plain_core.specs.Turning.{Came, Went}
+use Rattle.plain_core.specs.Turning.{Came}
 use Rattle.plain_core.proofs.turning.go.Goals as goal
 
 comes : (h : Host) (from : State) (target : ℕ) (g : IsGoing h from target) → Comes h from target 1099511627776 g

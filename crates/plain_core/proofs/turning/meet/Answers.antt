@@ -1,5 +1,4 @@
-use Rattle.std.proofs.Common.{◌≡◌, ◌⊎◌, ◌<◌, ◌≤◌, ◌+◌, ◌*◌, ◌-◌, ◌^◌, ℕ, suc, true, false, Some, None, Ok, refl, ◌∙◌, ap, sym, subst, arith}
-use Rattle.plain_host.specs.Hosted.{host}
+use Rattle.std.proofs.Common.{◌∙◌, ap, arith}
 use Rattle.slot_lookup.specs.declared.sends.Found.TheVariants.{One}
 use Rattle.plain_core.proofs.Serving.{word_small, field_there}
 use Rattle.plain_core.proofs.turning.meet.Goals as goal

@@ -1,5 +1,4 @@
-use Rattle.std.proofs.Common.{◌≡◌, ◌⊎◌, ◌<◌, ◌≤◌, ◌+◌, ◌*◌, ◌-◌, ◌^◌, ℕ, suc, true, false, Some, None, Ok, refl, ◌∙◌, ap, sym, subst, arith}
-use Rattle.plain_host.specs.Hosted.{host}
+use Rattle.std.proofs.Common.{◌∙◌, sym}
 use Rattle.plain_core.proofs.Serving.{none_or}
 use Rattle.plain_core.proofs.turning.place_of.Goals as goal
 

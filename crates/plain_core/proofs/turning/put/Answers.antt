@@ -1,4 +1,4 @@
-use Rattle.std.proofs.Common.{◌≡◌, ◌⊎◌, ◌<◌, ◌≤◌, ◌+◌, ◌*◌, ◌-◌, ◌^◌, ℕ, suc, true, false, Some, None, Ok, refl, ◌∙◌, ap, sym, subst, arith}
+use Rattle.std.proofs.Common.{ap, arith}
 use Rattle.plain_host.specs.Hosted.{host}
 use Rattle.plain_runs.specs.Host.{Host}
 use Rattle.plain_core.proofs.Serving.{asked, method_there, unit_fits, back_is, is_put, unit_put}

@@ -1,5 +1,3 @@
-use Rattle.std.proofs.Common.{◌≡◌, ◌⊎◌, ◌<◌, ◌≤◌, ◌+◌, ◌*◌, ◌-◌, ◌^◌, ℕ, suc, true, false, Some, None, Ok, refl, ◌∙◌, ap, sym, subst, arith}
-use Rattle.plain_host.specs.Hosted.{host}
 use Rattle.plain_core.proofs.Serving.{asked}
 use Rattle.plain_core.proofs.turning.send.Goals as goal
 

@@ -1,4 +1,4 @@
-use Rattle.std.proofs.Common.{◌≡◌, ℕ, subst}
+use Rattle.std.proofs.Common.{subst}
 use Rattle.plain_host.specs.Hosted.{host}
 use Rattle.plain_core.specs.Turning.{Served}
 use Rattle.plain_core.specs.declared.turning.Turn.{Turn}
