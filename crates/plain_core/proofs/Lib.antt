@@ -1,3 +1,4 @@
 pub mod Serving
 pub mod Joining
 pub mod Rounds
+pub mod Births

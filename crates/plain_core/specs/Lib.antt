@@ -1,3 +1,4 @@
 -- A session in plain code.
 pub mod Turning
 pub mod Running
+pub mod Spawning

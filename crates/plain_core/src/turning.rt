@@ -215,7 +215,7 @@ fn back_of(hosting: &Hosting, _walk: &Walk, _target: u64) -> u32
 }
 
 // Whether a body is built: a method without block literals.
-fn is_blockless(body: &Body) -> bool
+pub(crate) fn is_blockless(body: &Body) -> bool
     ensures { result ≡ is_blockless body.now }
 {
     body.outer.is_none() && !owns_context(body)

@@ -1,0 +1,56 @@
+-- What the command `spawn` comes to.
+use Rattle.std.specs.Prelude.{◌≡◌, ◌≢◌, ℕ, ◌+◌, ◌-◌, ◌<◌, ◌≤◌, false, List, length, Some, slice_get, codes}
+use Rattle.source_model.specs.Formed.{arity}
+use Rattle.source_model.specs.Lines.{activity_line}
+use Rattle.source_model.specs.Script.{Spawn, becomes, refused, command}
+use Rattle.source_model.specs.State.{State, Reached}
+use Rattle.source_model.specs.Texts.{error_text}
+use Rattle.plain_runs.specs.Host.{Host}
+use Rattle.plain_stretches.specs.Gate.{may_enter}
+use Rattle.plain_turns.specs.Resting.{Rests}
+use Rattle.plain_births.specs.Meeting.{message, lobby_meets}
+use Rattle.plain_core.specs.declared.spawning.Birth.{Birth}
+use Rattle.plain_core.specs.declared.spawning.Birth.TheVariants.{Begun, Missing, NotAMethod, TooMany, NotBuilt}
+
+-- machine and host stand for some state
+abbrev pub CanSpawn : Host → Type 0
+CanSpawn h = (s : State) × Rests h s
+
+-- An activity has begun: machine and host stand for the state that the command comes to.
+pub record HasBegun (to : Host) (q : Reached) (text : List ℕ) : Type 0 where
+  pub state : State
+  pub rests : Rests to state
+  pub comes : (stop : ℕ) → command (Spawn text) stop q ≡ becomes state (activity_line (state.current + 1)) q
+
+-- Nothing has changed, and the command is refused for this reason.
+pub record IsRefused (why : List ℕ) (h to : Host) (q : Reached) (text : List ℕ) : Type 0 where
+  pub same : to ≡ h
+  pub refuses : (stop : ℕ) → command (Spawn text) stop q ≡ refused why q
+
+-- Nothing has changed: there are fewer than four activities, and the lobby's message meets a method that isn't built.
+pub record IsUnbuilt (h to : Host) (q : Reached) (text : List ℕ) : Type 0 where
+  pub same : to ≡ h
+  pub few : length h.statuses < 4
+  pub gate : may_enter q.state (lobby_meets q.state text) ≡ false
+
+abbrev pub Comes : Host → Host → Reached → List ℕ → Birth → Type 0
+Comes h to q text Begun = HasBegun to q text
+Comes h to q text (Missing e) = IsRefused (error_text e) h to q text
+Comes h to q text NotAMethod = IsRefused (codes "not a method") h to q text
+Comes h to q text TooMany = IsRefused (codes "too many activities") h to q text
+Comes h to q text NotBuilt = IsUnbuilt h to q text
+
+-- Whatever session machine and host stand for, this is what a spawn of the text comes to that has the name, and takes no arguments.
+abbrev pub IsBirth : Host → Host → ℕ → Birth → Type 0
+IsBirth h to name b = (q : Reached) (text : List ℕ) → Rests h q.state → message q.state text ≡ name → arity text ≡ 0 → Comes h to q text b
+
+-- A body's unit stands at an address, and machine and host stand for what they stood for. Used by contracts of private functions alone.
+pub record IsReady (h to : Host) (c at : ℕ) : Type 0 where
+  pub rests : (s : State) → (r : Rests h s) → (x : Rests to s) × (x.sense ≡ r.sense)
+  pub unit : slice_get to.entries (c - 1) ≡ Some at
+  pub some : at ≢ 0
+  pub low : at ≤ 0x12000000
+  pub bodies : to.bodies ≡ h.bodies
+  pub statuses : to.statuses ≡ h.statuses
+  pub references : to.references ≡ h.references
+  pub objects : to.next ≡ h.next
