@@ -249,12 +249,12 @@ module _ (less : Bool) (name : Name) (f : ℤ → ℤ → ℤ) (implied handler 
       let receiver = handed_receiver m implied locals first in
       let argument = handed_argument m implied locals first in
       let over : (i j : ℤ) → q.receiver ≡ values.Int i → q.arguments ≡ values.Int j ∷ [] → is_small (if less then i -ℤ j else i +ℤ j) ≡ false = λ i j er ea. (
-        let one = (let P : Value → Type 0 = λ y. IsValue z.cells z.places y w.receiver in subst P er message.receiver) in
-        let others = (let P : List Value → Type 0 = λ ys. AreValues z.cells z.places ys w.arguments in subst P ea message.arguments) in
-        let two = (let P : List ℕ → Type 0 = λ ws. AreValues z.cells z.places (values.Int j ∷ []) ws in subst P hw.arguments others) in
-        let first_word : receiver ≡ word_of i = sym hw.receiver ∙ one.1 in
-        let flag : overflows less (word_of i) (word_of j) ≡ true = sym (ap (λ y. overflows less y argument) first_word ∙ ap (overflows less (word_of i)) two.0.1) ∙ e in
-        never (is_small (if less then i -ℤ j else i +ℤ j)) (λ yes. (let no : overflows less (word_of i) (word_of j) ≡ false = (ints i j one.0 two.0.0 (true_small (f i j) (ap is_small (f_is i j) ∙ yes))).0 in let both : true ≡ false = sym flag ∙ no in cc))
+      let one = (let P : Value → Type 0 = λ y. IsValue z.cells z.places y w.receiver in subst P er message.receiver) in
+      let others = (let P : List Value → Type 0 = λ ys. AreValues z.cells z.places ys w.arguments in subst P ea message.arguments) in
+      let two = (let P : List ℕ → Type 0 = λ ws. AreValues z.cells z.places (values.Int j ∷ []) ws in subst P hw.arguments others) in
+      let first_word : receiver ≡ word_of i = sym hw.receiver ∙ one.1 in
+      let flag : overflows less (word_of i) (word_of j) ≡ true = sym (ap (λ y. overflows less y argument) first_word ∙ ap (overflows less (word_of i)) two.0.1) ∙ e in
+      never (is_small (if less then i -ℤ j else i +ℤ j)) (λ yes. (let no : overflows less (word_of i) (word_of j) ≡ false = (ints i j one.0 two.0.0 (true_small (f i j) (ap is_small (f_is i j) ∙ yes))).0 in let both : true ≡ false = sym flag ∙ no in cc))
       ) in
       let known : is_summed name.0 1 q ≡ false = told q ∙ comes_not less q.receiver q.arguments over in
       let front = sum_code less implied locals first (1 + one_if handler) in
