@@ -1,5 +1,5 @@
 -- What the command `spawn` does, by what the host's lookup from the lobby finds.
-use Rattle.std.specs.Prelude.{◌≡◌, ℕ, ◌-◌, ◌<◌, ◌≤◌, List, length, Option, Some, None, slice_get, codes}
+use Rattle.std.specs.Prelude.{◌≡◌, ℕ, ◌-◌, ◌<◌, ◌≤◌, true, List, length, Option, Some, None, slice_get, codes}
 use Rattle.self_terms.specs.declared.errors.ErrorName.{ErrorName}
 use Rattle.self_terms.specs.declared.errors.ErrorName.TheVariants as errors
 use Rattle.self_terms.specs.declared.values.BodyId.{BodyId}
@@ -54,12 +54,14 @@ pub record IsLobbyMethod (h : Host) (s : State) (r : Rests h s) (text : List ℕ
   pub gate : may_enter s (lobby_meets s text) ≡ is_blockless (body_in h.bodies c.0)
   pub arguments : arity text ≡ 0 → length (body_in h.bodies c.0).arguments ≡ 0
 
--- The lookup may be made, and tells what the message meets and how the command ends, where it has no method.
+-- The lookup may be made, and tells what the message meets and how the command ends, where it has no method; the gate in front of what isn't built
+-- asks nothing of it then.
 pub record Tells (h : Host) (q : Reached) (r : Rests h q.state) (text : List ℕ) (lobby room : ℕ) : Type 0 where
   pub may : MayLook h.maps h.machine.memory room lobby
   pub missing : (e : ErrorName) → error_of (lobby_finds room h lobby (message q.state text)) ≡ Some e → lobby_meets q.state text ≡ Missing e
   pub method : (holder : ℕ) (c : BodyId) → lobby_finds room h lobby (message q.state text) ≡ One holder (Method c) → IsLobbyMethod h q.state r text holder c
   pub refuses : (why : List ℕ) → refusal (lobby_finds room h lobby (message q.state text)) ≡ Some why → length h.statuses < 4 → (stop : ℕ) → command (Spawn text) stop q ≡ refused why q
+  pub enters : (why : List ℕ) → refusal (lobby_finds room h lobby (message q.state text)) ≡ Some why → may_enter q.state (lobby_meets q.state text) ≡ true
 
 -- So it is while a session rests, where there is room for all objects.
 abbrev pub BirthsMeet : Type 0

@@ -1,7 +1,9 @@
 -- What a spawn comes to.
 use Rattle.std.proofs.Common.{◌≡◌, ◌≢◌, ℕ, zero, suc, ◌+◌, ◌*◌, ◌-◌, ◌%◌, ◌<◌, ◌≤◌, List, [], ◌∷◌, refl, ◌∙◌, ap, sym, subst, arith, inl, inr}
-use Rattle.std.specs.Prelude.{◌⊎◌, Bool, true, false, Option, Some, None, slice_get, length}
+use Rattle.std.specs.Prelude.{◌⊎◌, ◌||◌, nat_lt, not, Bool, true, false, Option, Some, None, slice_get, length}
+use Rattle.std.proofs.lemmas.Bool.{cond-true, cond-false, lt-ltb, le-ltb}
 use Rattle.std.proofs.lemmas.Option.{same_Some}
+use Rattle.self_terms.specs.declared.errors.ErrorName.TheVariants as errors
 use Rattle.self_terms.specs.declared.bodies.Body.{Body}
 use Rattle.self_terms.specs.declared.values.BodyId.{BodyId}
 use Rattle.self_terms.specs.declared.values.Value.TheVariants as values
@@ -13,6 +15,8 @@ use Rattle.slot_lookup.specs.declared.sends.Found.TheVariants.{One}
 use Rattle.source_model.specs.declared.objects.Content.TheVariants.{Method}
 use Rattle.source_model.specs.Formed.{IsFormed}
 use Rattle.source_model.specs.Messages.{Met, Holds, meets}
+use Rattle.source_model.specs.Script.{Spawn, refused, command}
+use Rattle.source_model.specs.Texts.{error_text}
 use Rattle.source_model.specs.Soundness.{body_in, HasBody}
 use Rattle.source_model.specs.State.{State, Reached}
 use Rattle.source_model.proofs.Accepting.{MetFits, meets_fit}
@@ -31,13 +35,14 @@ use Rattle.plain_answers.specs.Found.{IsMethod}
 use Rattle.plain_lookups.specs.Telling.{MayLook, IsEvaluated}
 use Rattle.plain_lookups.proofs.Telling.{values_told, may}
 use Rattle.plain_units.specs.Putting.{IsPut}
-use Rattle.plain_stretches.specs.Gate.{is_blockless}
+use Rattle.plain_stretches.specs.Gate.{is_blockless, may_enter}
 use Rattle.plain_turns.specs.Resting.{Rests}
 use Rattle.plain_births.specs.Meeting.{message, lobby_meets, lobby_finds, refusal}
 use Rattle.plain_births.proofs.Units.{units_fit_there, units_rest}
-use Rattle.plain_births.proofs.Meeting.{births_meet, four_are_most}
+use Rattle.plain_births.proofs.Meeting.{as_many, births_meet, four_are_most}
 use Rattle.plain_births.proofs.Beginning.{births_rest}
 use Rattle.plain_births.proofs.Flushing.{frames_may_flush}
+use Rattle.plain_core.specs.Gated.{may_spawn, gated_spawn}
 use Rattle.plain_core.specs.Spawning.{CanSpawn, IsRefused, IsBirth, IsReady}
 use Rattle.plain_core.specs.declared.spawning.Birth.TheVariants.{Begun, TooMany, NotBuilt}
 
@@ -132,22 +137,50 @@ module _ (h mid : Host) (s : State) (c : BodyId) (r : Rests h s) (m : IsFound h 
   pub unit_fits : next_unit h + 4 * length (unit_code h.references (body_in h.bodies c.0)) ≤ 0x12000000
   unit_fits = units_fit_there h s c.0 r m.given none built
 
+  pub is_put : At mid.machine.memory (next_unit h) (unit_code h.references (body_in h.bodies c.0)) → Apart h.machine.memory mid.machine.memory (next_unit h) (length (unit_code h.references (body_in h.bodies c.0))) → IsWhole mid.machine
+      → IsPut h c.0 mid.machine.memory
+  is_put code apart whole = record {
+    given = m.given.0;
+    known = m.given.1;
+    none = none;
+    region = record { aligned = next_aligned h; from = omega arith; to = unit_fits };
+    code = code;
+    apart = apart;
+    within = whole.memory_within;
+  }
+
   pub ready_put : (at : ℕ) → at ≡ next_unit h → mid ≡ with_unit c.0 mid.machine.memory h → At mid.machine.memory (next_unit h) (unit_code h.references (body_in h.bodies c.0))
       → Apart h.machine.memory mid.machine.memory (next_unit h) (length (unit_code h.references (body_in h.bodies c.0))) → IsWhole mid.machine → IsReady h mid c.0 at
   ready_put at at_is is code apart whole =
       let memory = mid.machine.memory in
-      let put : IsPut h c.0 memory = record {
-        given = m.given.0;
-        known = m.given.1;
-        none = none;
-        region = record { aligned = next_aligned h; from = omega arith; to = unit_fits };
-        code = code;
-        apart = apart;
-        within = whole.memory_within;
-      } in
+      let put = is_put code apart whole in
       let P : Host → Type 0 = λ y. IsReady h y c.0 (next_unit h) in
       let Q : ℕ → Type 0 = λ k. IsReady h mid c.0 k in
       subst Q (sym at_is) (subst P (sym is) (ready_with h s c.0 memory r put built))
+
+-- The gate.
+
+or_true : (b : Bool) → (b || true) ≡ true
+or_true true = refl
+or_true false = refl
+
+-- what may be entered may begin
+may_begin : (q : Reached) (text : List ℕ) → may_enter q.state (lobby_meets q.state text) ≡ true → may_spawn text q.state ≡ true
+may_begin q text e = ap (λ b. not (nat_lt (length q.state.activities) 4) || b) e ∙ or_true (not (nat_lt (length q.state.activities) 4))
+
+-- of five activities none is asked
+or_more : (q : Reached) (text : List ℕ) → 4 ≤ length q.state.activities → may_spawn text q.state ≡ true
+or_more q text many = ap (λ b. not b || may_enter q.state (lobby_meets q.state text)) (le-ltb (length q.state.activities) 4 many)
+
+-- the gate is open
+lets : (q : Reached) (text : List ℕ) → may_spawn text q.state ≡ true → gated_spawn text q ≡ command (Spawn text) 0 q
+unfolding gated_spawn command
+lets q text e = cond-true (may_spawn text q.state) _ _ e
+
+-- or it isn't
+stops : (q : Reached) (text : List ℕ) → length q.state.activities < 4 → may_enter q.state (lobby_meets q.state text) ≡ false → gated_spawn text q ≡ refused (error_text errors.NotBuilt) q
+unfolding gated_spawn
+stops q text few e = cond-false (may_spawn text q.state) _ _ (ap (λ b. not b || may_enter q.state (lobby_meets q.state text)) (lt-ltb (length q.state.activities) 4 few) ∙ e)
 
 -- Its activity.
 
@@ -180,8 +213,8 @@ module _ (h mid : Host) (name lobby room holder at : ℕ) (c : BodyId) (is : sli
       }
 
   module _ (to : Host) (begun : to ≡ begins c.0 at lobby holder mid) where
-    pub born : IsBirth h to name Begun
-    born q text r named none =
+    pub born : is_blockless (body_in h.bodies c.0) ≡ true → IsBirth h to name Begun
+    born built q text r named none =
         let m = (births_meet h q text lobby room r is far).method holder c (ap (lobby_finds room h lobby) named ∙ found) in
         let x = ready.rests q.state r in
         let met : IsMethod x.0.sense q.state (lobby_meets q.state text) holder c = subst (λ z. IsMethod z q.state (lobby_meets q.state text) holder c) (sym x.1) m.met in
@@ -191,7 +224,7 @@ module _ (h mid : Host) (name lobby room holder at : ℕ) (c : BodyId) (is : sli
         record {
           state = b.state;
           rests = subst (λ (y : Host). Rests y b.state) (sym begun) b.rests;
-          comes = b.comes;
+          comes = lets q text (may_begin q text (m.gate ∙ built)) ∙ b.comes 0;
         }
 
     pub objects : to.next ≡ h.next
@@ -201,20 +234,21 @@ module _ (h mid : Host) (name lobby room holder at : ℕ) (c : BodyId) (is : sli
 
 module _ (h : Host) (name lobby room : ℕ) (is : slice_get h.references.objects 0 ≡ Some lobby) (far : h.next ≤ room) (few : length h.statuses < 4) where
   pub unmet : (found : Found) (why : List ℕ) → lobby_finds room h lobby name ≡ found → refusal found ≡ Some why → (q : Reached) (text : List ℕ) → Rests h q.state → message q.state text ≡ name → IsRefused why h h q text
-  unmet found why e w q text r named = record {
-    same = refl;
-    refuses = (births_meet h q text lobby room r is far).refuses why (ap refusal (ap (lobby_finds room h lobby) named ∙ e) ∙ w) few;
-  }
+  unmet found why e w q text r named =
+      let told = births_meet h q text lobby room r is far in
+      let finds = ap refusal (ap (lobby_finds room h lobby) named ∙ e) ∙ w in
+      record { same = refl; refuses = lets q text (may_begin q text (told.enters why finds)) ∙ told.refuses why finds few 0 }
 
   pub unbuilt : (holder : ℕ) (c : BodyId) → lobby_finds room h lobby name ≡ One holder (MethodKind c) → is_blockless (body_in h.bodies c.0) ≡ false → IsBirth h h name NotBuilt
-  unbuilt holder c e blocks q text r named none = record {
-    same = refl;
-    few = few;
-    gate = ((births_meet h q text lobby room r is far).method holder c (ap (lobby_finds room h lobby) named ∙ e)).gate ∙ blocks;
-  }
+  unbuilt holder c e blocks q text r named none =
+      let m = (births_meet h q text lobby room r is far).method holder c (ap (lobby_finds room h lobby) named ∙ e) in
+      record { same = refl; refuses = stops q text (let same = as_many h q.state r in omega (arith, same, few)) (m.gate ∙ blocks) }
 
 pub too_many : (h : Host) (name : ℕ) → 4 ≤ length h.statuses → IsBirth h h name TooMany
-too_many h name many q text r named none = record { same = refl; refuses = λ stop. four_are_most h q text stop r many }
+too_many h name many q text r named none = record {
+  same = refl;
+  refuses = lets q text (or_more q text (let same = as_many h q.state r in omega (arith, same, many))) ∙ four_are_most h q text 0 r many;
+}
 
 -- What the calls tell.
 

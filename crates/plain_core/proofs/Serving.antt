@@ -26,12 +26,13 @@ use Rattle.plain_answers.specs.Found.{error_of}
 use Rattle.plain_answers.specs.Whole.{whole}
 use Rattle.plain_units.specs.Putting.{IsPut}
 use Rattle.plain_stretches.specs.Gate.{is_blockless}
-use Rattle.plain_turns.specs.Asking.{count, node_here, place_here, place_before, found_here, behind_poll, goes_back}
-use Rattle.plain_turns.specs.Events.{Waits, Answers, Assigns, Calls, Puts, Misses, Overflows, Unbuilt, Performs, Returns, Ends}
+use Rattle.plain_turns.specs.Asking.{count, node_here, place_here, place_before, found_here, behind_poll, goes_back, bare_sum_here, sum_error}
+use Rattle.plain_turns.specs.Events.{Waits, Answers, Assigns, Calls, Puts, Misses, Overflows, Unbuilt, Refuses, Performs, Returns, Ends}
 use Rattle.plain_turns.specs.Resting.{IsAtTrap}
 use Rattle.plain_turns.specs.Turns.{IsAsked, AtTrap}
 use Rattle.plain_turns.proofs.Running.{traps_tell, objects_count}
 use Rattle.plain_turns.proofs.Ending.{goals_end, answers_end, primitives_end, returns_end}
+use Rattle.plain_turns.proofs.Failing.{sums_end}
 use Rattle.plain_turns.proofs.Asked.{messages_ask, fields_are_read}
 use Rattle.plain_turns.proofs.Answering.{data_turns, assignments_turn, misses_end, calls_turn, overflows_end, unbuilt_end}
 use Rattle.plain_turns.proofs.Putting.{methods_there, units_fit, units_turn}
@@ -116,11 +117,18 @@ end_served h target room at = record {
   turned = λ from x. ended (answers_end h from target x 0 0 (omega arith));
 }
 
-pub primitive_served : (h : Host) (target room : ℕ) → StandsAt h 3 target → Served room 3 h (fails 0 0 errors.NotBuilt (place_here h) h) target turns.Ended
-primitive_served h target room at = record {
-  serves = Performs at.1.stands 0 0;
+pub sum_served : (h : Host) (target room : ℕ) → StandsAt h 3 target → bare_sum_here h ≡ true → Served room 3 h (fails 0 0 (sum_error h) (place_here h) h) target turns.Ended
+sum_served h target room at bare = record {
+  serves = Refuses at.1.stands 0 0 bare;
   objects = refl;
-  turned = λ from x. ended (primitives_end h from target x 0 0 (omega arith));
+  turned = λ from x. ended (sums_end h from target x bare 0 0 (omega arith));
+}
+
+pub primitive_served : (h : Host) (target room : ℕ) → StandsAt h 3 target → bare_sum_here h ≡ false → Served room 3 h (fails 0 0 errors.NotBuilt (place_here h) h) target turns.Ended
+primitive_served h target room at other = record {
+  serves = Performs at.1.stands 0 0 other;
+  objects = refl;
+  turned = λ from x. ended (primitives_end h from target x other 0 0 (omega arith));
 }
 
 pub home_served : (h : Host) (target room : ℕ) → StandsAt h 4 target → Served room 4 h (fails 0 0 errors.NotBuilt (place_before h) h) target turns.Ended
@@ -193,8 +201,11 @@ module _ {h to : Host} {target room : ℕ} where
       → 4096 ≤ h.machine.regs 4 → Served room 1 h to target turns.Ended
   overflowed holder entry c p is same at fits found there some many = by_place _ _ _ _ is same (overflow_served h target room holder entry c at fits found there some many)
 
-  pub performed : (p : Place) → to ≡ fails 0 0 errors.NotBuilt p h → p ≡ place_here h → StandsAt h 3 target → Served room 3 h to target turns.Ended
-  performed p is same at = by_place _ _ _ _ is same (primitive_served h target room at)
+  pub sum_failed : (e : ErrorName) (p : Place) → to ≡ fails 0 0 e p h → e ≡ sum_error h → p ≡ place_here h → StandsAt h 3 target → bare_sum_here h ≡ true → Served room 3 h to target turns.Ended
+  sum_failed e p is told_error same at bare = by_place _ _ _ _ (is ∙ ap (λ (k : ErrorName). fails 0 0 k p h) told_error) same (sum_served h target room at bare)
+
+  pub lacked : (p : Place) → to ≡ fails 0 0 errors.NotBuilt p h → p ≡ place_here h → StandsAt h 3 target → bare_sum_here h ≡ false → Served room 3 h to target turns.Ended
+  lacked p is same at other = by_place _ _ _ _ is same (primitive_served h target room at other)
 
   pub left_home : (p : Place) → to ≡ fails 0 0 errors.NotBuilt p h → p ≡ place_before h → StandsAt h 4 target → Served room 4 h to target turns.Ended
   left_home p is same at = by_place _ _ _ _ is same (home_served h target room at)

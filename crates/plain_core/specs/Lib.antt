@@ -1,4 +1,6 @@
 -- A session in plain code.
+pub mod Gated
 pub mod Turning
 pub mod Running
 pub mod Spawning
+pub mod Leading

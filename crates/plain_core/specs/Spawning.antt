@@ -1,14 +1,15 @@
 -- What the command `spawn` comes to.
-use Rattle.std.specs.Prelude.{◌≡◌, ◌≢◌, ℕ, ◌+◌, ◌-◌, ◌<◌, ◌≤◌, false, List, length, Some, slice_get, codes}
+use Rattle.std.specs.Prelude.{◌≡◌, ◌≢◌, ℕ, ◌+◌, ◌-◌, ◌≤◌, List, Some, slice_get, codes}
+use Rattle.self_terms.specs.declared.errors.ErrorName.TheVariants as errors
 use Rattle.source_model.specs.Formed.{arity}
 use Rattle.source_model.specs.Lines.{activity_line}
-use Rattle.source_model.specs.Script.{Spawn, becomes, refused, command}
+use Rattle.source_model.specs.Script.{becomes, refused}
 use Rattle.source_model.specs.State.{State, Reached}
 use Rattle.source_model.specs.Texts.{error_text}
 use Rattle.plain_runs.specs.Host.{Host}
-use Rattle.plain_stretches.specs.Gate.{may_enter}
 use Rattle.plain_turns.specs.Resting.{Rests}
-use Rattle.plain_births.specs.Meeting.{message, lobby_meets}
+use Rattle.plain_births.specs.Meeting.{message}
+use Rattle.plain_core.specs.Gated.{gated_spawn}
 use Rattle.plain_core.specs.declared.spawning.Birth.{Birth}
 use Rattle.plain_core.specs.declared.spawning.Birth.TheVariants.{Begun, Missing, NotAMethod, TooMany, NotBuilt}
 
@@ -20,25 +21,19 @@ CanSpawn h = (s : State) × Rests h s
 pub record HasBegun (to : Host) (q : Reached) (text : List ℕ) : Type 0 where
   pub state : State
   pub rests : Rests to state
-  pub comes : (stop : ℕ) → command (Spawn text) stop q ≡ becomes state (activity_line (state.current + 1)) q
+  pub comes : gated_spawn text q ≡ becomes state (activity_line (state.current + 1)) q
 
 -- Nothing has changed, and the command is refused for this reason.
 pub record IsRefused (why : List ℕ) (h to : Host) (q : Reached) (text : List ℕ) : Type 0 where
   pub same : to ≡ h
-  pub refuses : (stop : ℕ) → command (Spawn text) stop q ≡ refused why q
-
--- Nothing has changed: there are fewer than four activities, and the lobby's message meets a method that isn't built.
-pub record IsUnbuilt (h to : Host) (q : Reached) (text : List ℕ) : Type 0 where
-  pub same : to ≡ h
-  pub few : length h.statuses < 4
-  pub gate : may_enter q.state (lobby_meets q.state text) ≡ false
+  pub refuses : gated_spawn text q ≡ refused why q
 
 abbrev pub Comes : Host → Host → Reached → List ℕ → Birth → Type 0
 Comes h to q text Begun = HasBegun to q text
 Comes h to q text (Missing e) = IsRefused (error_text e) h to q text
 Comes h to q text NotAMethod = IsRefused (codes "not a method") h to q text
 Comes h to q text TooMany = IsRefused (codes "too many activities") h to q text
-Comes h to q text NotBuilt = IsUnbuilt h to q text
+Comes h to q text NotBuilt = IsRefused (error_text errors.NotBuilt) h to q text
 
 -- Whatever session machine and host stand for, this is what a spawn of the text comes to that has the name, and takes no arguments.
 abbrev pub IsBirth : Host → Host → ℕ → Birth → Type 0

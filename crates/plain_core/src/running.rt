@@ -4,6 +4,7 @@ ghost use Rattle.plain_host.specs.Hosted.{host};
 ghost use Rattle.source_model.specs.State.{State};
 ghost use Rattle.plain_turns.specs.Asking.{count};
 ghost use Rattle.plain_turns.specs.Resting.{IsGoing, HasRun};
+ghost use Rattle.plain_core.specs.Leading.{Leads};
 ghost use Rattle.plain_core.specs.Running.{CanRun, HasRunOn, IsReached};
 ghost use Rattle.plain_core.specs.Turning.{CanGoOn};
 
@@ -25,6 +26,7 @@ fn run_to(
     requires room { (host hosting.old).next ≤ walk.old }
     ensures runs { OnOk result ((from : State) → IsGoing (host hosting.old) from target → HasRun (host hosting.new) from target) }
     ensures reached { OnOk result (IsReached walk.old (host hosting.old) (host hosting.new)) }
+    ensures roomy { OnOk result ((host hosting.new).next ≤ walk.old) }
     ensures same { walk.new ≡ walk.old }
 {
     let mut at = Some(go(hosting, target));
@@ -47,6 +49,8 @@ pub fn run(
     requires counted { count (host hosting.old) + steps ≤ 2 ^ 61 }
     requires room { (host hosting.old).next ≤ walk.old }
     ensures ran { OnOk result (HasRunOn walk.old steps (host hosting.old) (host hosting.new)) }
+    ensures led { OnOk result (Leads walk.old (host hosting.old) (host hosting.new)) }
+    ensures roomy { OnOk result ((host hosting.new).next ≤ walk.old) }
     ensures same { walk.new ≡ walk.old }
 {
     hosting.is_whole();

@@ -6,6 +6,7 @@ ghost use Rattle.source_model.specs.Soundness.{body_in};
 ghost use Rattle.plain_host.specs.Hosted.{host};
 ghost use Rattle.plain_stretches.specs.Gate.{is_blockless};
 ghost use Rattle.plain_births.specs.Meeting.{lobby_finds};
+ghost use Rattle.plain_core.specs.Leading.{Leads};
 ghost use Rattle.plain_core.specs.Spawning.{CanSpawn, IsBirth, IsReady};
 
 use crate::turning::is_blockless;
@@ -59,6 +60,8 @@ fn unit_at(
     requires found { lobby_finds _walk.now (host hosting.old) _lobby _name.0 ≡ One _holder (Method body) }
     requires plain { is_blockless (body_in (host hosting.old).bodies body.0) ≡ true }
     ensures ready { IfOk result (λ at. IsReady (host hosting.old) (host hosting.new) body.0 at) }
+    ensures led { OnOk result (Leads _walk.now (host hosting.old) (host hosting.new)) }
+    ensures finds { OnOk result (lobby_finds _walk.now (host hosting.new) _lobby _name.0 ≡ One _holder (Method body)) }
     ensures same { OnErr result (host hosting.new ≡ host hosting.old) }
 {
     match hosting.entry_of(body.0) {
@@ -89,6 +92,7 @@ fn begin(
     requires found { lobby_finds walk.now (host hosting.old) lobby name.0 ≡ One holder (Method body) }
     requires plain { is_blockless (body_in (host hosting.old).bodies body.0) ≡ true }
     ensures born { IfOk result (λ b. IsBirth (host hosting.old) (host hosting.new) name.0 b) }
+    ensures led { IfOk result (λ b. Leads walk.now (host hosting.old) (host hosting.new)) }
     ensures objects { OnOk result ((host hosting.new).next ≡ (host hosting.old).next) }
     ensures same { OnErr result (host hosting.new ≡ host hosting.old) }
 {
@@ -113,6 +117,7 @@ fn enter(
     requires lobby { slice_get (host hosting.old).references.objects 0 ≡ Some lobby }
     requires found { lobby_finds walk.now (host hosting.old) lobby name.0 ≡ One holder (Method body) }
     ensures born { IfOk result (λ b. IsBirth (host hosting.old) (host hosting.new) name.0 b) }
+    ensures led { IfOk result (λ b. Leads walk.now (host hosting.old) (host hosting.new)) }
     ensures objects { OnOk result ((host hosting.new).next ≡ (host hosting.old).next) }
     ensures same { OnErr result (host hosting.new ≡ host hosting.old) }
 {
@@ -137,6 +142,7 @@ fn meet(
     requires lobby { slice_get (host hosting.old).references.objects 0 ≡ Some lobby }
     requires found { lobby_finds walk.now (host hosting.old) lobby name.0 ≡ found }
     ensures born { IfOk result (λ b. IsBirth (host hosting.old) (host hosting.new) name.0 b) }
+    ensures led { IfOk result (λ b. Leads walk.now (host hosting.old) (host hosting.new)) }
     ensures objects { OnOk result ((host hosting.new).next ≡ (host hosting.old).next) }
     ensures same { OnErr result (host hosting.new ≡ host hosting.old) }
 {
@@ -165,6 +171,7 @@ pub fn spawn(
     requires rests { CanSpawn (host hosting.old) }
     requires room { (host hosting.old).next ≤ walk.old }
     ensures born { IfOk result (λ b. IsBirth (host hosting.old) (host hosting.new) name.0 b) }
+    ensures led { IfOk result (λ b. Leads walk.old (host hosting.old) (host hosting.new)) }
     ensures objects { OnOk result ((host hosting.new).next ≡ (host hosting.old).next) }
     ensures unchanged { OnErr result (host hosting.new ≡ host hosting.old) }
     ensures same { walk.new ≡ walk.old }

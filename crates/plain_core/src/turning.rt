@@ -14,7 +14,7 @@ ghost use Rattle.plain_answers.specs.Whole.{whole};
 ghost use Rattle.plain_answers.specs.Found.{error_of};
 ghost use Rattle.plain_lookups.specs.Telling.{found_by};
 ghost use Rattle.plain_stretches.specs.Gate.{is_blockless};
-ghost use Rattle.plain_turns.specs.Asking.{count, behind_poll, found_here, node_here, place_here, place_before};
+ghost use Rattle.plain_turns.specs.Asking.{count, behind_poll, found_here, node_here, place_here, place_before, is_bare, bare_sum_here, sum_error};
 ghost use Rattle.plain_turns.specs.Resting.{IsGoing, IsAtTrap, HasRun};
 ghost use Rattle.plain_turns.specs.Turns.{IsAsked};
 ghost use Rattle.plain_core.specs.Turning.{CanGoOn, StandsAt, Came, Went, Served, TurnsOn};
@@ -22,7 +22,7 @@ ghost use Rattle.plain_core.specs.Turning.{CanGoOn, StandsAt, Came, Went, Served
 use object_maps::SlotKind;
 use plain_host::Hosting;
 use plain_words::owns_context;
-use self_terms::{Body, BodyId, ErrorName, Node, OutOfMemory, Place, PlaceList};
+use self_terms::{Body, BodyId, ErrorName, INT_ADD, INT_SUB, Node, OutOfMemory, Place, PlaceList};
 use slot_lookup::{Found, Walk, directed, lookup, resend};
 use sparc_machine::Event;
 use std::alloc::Global;
@@ -447,15 +447,68 @@ fn end(hosting: &mut Hosting, _walk: &Walk, _target: u64) -> Turn
     Turn::Ended
 }
 
-// A primitive isn't built yet.
-fn perform(hosting: &mut Hosting, _walk: &Walk, _target: u64) -> Turn
+// Whether a node is a sum or a difference that has no handler.
+fn is_bare(node: Option<Node>) -> bool
+    ensures { result ≡ is_bare node }
+{
+    match node {
+        Some(
+            Node::Prim {
+                name,
+                args,
+                handler,
+                ..
+            },
+        ) => args == 1 && (name == INT_ADD || name == INT_SUB) && !handler,
+        _ => false,
+    }
+}
+
+// The error of one that comes to no integer, by the words of its operands.
+fn sum_error(hosting: &Hosting) -> ErrorName
+    ensures { result ≡ sum_error (host hosting.now) }
+{
+    if hosting.register(8) % 4 == 0 && hosting.register(9) % 4 == 0 {
+        return ErrorName::Overflow;
+    }
+    ErrorName::BadType
+}
+
+// A sum or a difference that has no handler fails.
+fn fail_sum(hosting: &mut Hosting, _walk: &Walk, _target: u64) -> Turn
     requires at { StandsAt (host hosting.old) 3 _target }
     requires small { _target ≤ 2 ^ 61 }
+    requires bare { bare_sum_here (host hosting.old) ≡ true }
+    ensures { Served _walk.now 3 (host hosting.old) (host hosting.new) _target result }
+{
+    let error = sum_error(hosting);
+    let place = place_here(hosting);
+    hosting.fail(0, 0, error, place);
+    Turn::Ended
+}
+
+// No other primitive is built yet.
+fn lack(hosting: &mut Hosting, _walk: &Walk, _target: u64) -> Turn
+    requires at { StandsAt (host hosting.old) 3 _target }
+    requires small { _target ≤ 2 ^ 61 }
+    requires other { bare_sum_here (host hosting.old) ≡ false }
     ensures { Served _walk.now 3 (host hosting.old) (host hosting.new) _target result }
 {
     let place = place_here(hosting);
     hosting.fail(0, 0, ErrorName::NotBuilt, place);
     Turn::Ended
+}
+
+// A primitive's service.
+fn perform(hosting: &mut Hosting, walk: &Walk, target: u64) -> Turn
+    requires at { StandsAt (host hosting.old) 3 target }
+    requires small { target ≤ 2 ^ 61 }
+    ensures { Served walk.now 3 (host hosting.old) (host hosting.new) target result }
+{
+    if is_bare(node_here(hosting)) {
+        return fail_sum(hosting, walk, target);
+    }
+    lack(hosting, walk, target)
 }
 
 // Nor is a return from a home method.

@@ -29,7 +29,7 @@ in_heap at e from to = grind (arith, common_steps)
 nowhere : (at : ℕ) → (at % 4 ≡ 0 → ⊥) → place_of at ≡ Nowhere
 nowhere at ne = grind (arith, common_steps)
 
-has_heap : (m : Words) → HasHeap m (heap_words m)
+pub has_heap : (m : Words) → HasHeap m (heap_words m)
 unfolding word_at
 has_heap m = λ b from to. elim (cases_eq (b % 4) 0) [ inl e ↦ rw (in_heap b e from to) refl | inr ne ↦ rw (nowhere b ne) refl ]
 

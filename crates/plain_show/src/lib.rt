@@ -13,5 +13,5 @@ mod stacks;
 pub use frames::{FrameList, FrameWords};
 pub use laws::stacks_show;
 pub use reading::{read_frames, read_waiting};
-pub use showing::show;
+pub use showing::{show, value_alone};
 pub use stacks::StackReader;

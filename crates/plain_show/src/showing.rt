@@ -87,9 +87,9 @@ fn is_block_map(maps: &Maps, map: u32) -> bool
     maps.slot_of(MapId(map), Name(0)).is_some()
 }
 
-// A value, by its word.
-fn value_of(hosting: &Hosting, frames: &FrameList, word: u32) -> ShownValue
-    ensures { result ≡ value_shown (host hosting.now).maps (host hosting.now).machine.memory frames.now word }
+/// A value that no activation is beside, as the answer of an activity, by its word. Takes no memory.
+pub fn value_alone(hosting: &Hosting, word: u32) -> ShownValue
+    ensures { result ≡ value_shown (host hosting.now).maps (host hosting.now).machine.memory [] word }
 {
     if is_int(word) {
         return ShownValue::Int(int_of_word(word));
@@ -100,10 +100,24 @@ fn value_of(hosting: &Hosting, frames: &FrameList, word: u32) -> ShownValue
     }
     ShownValue::Block {
         body: BodyId(number_of(hosting, word)),
-        maker: position_at(
-            frames,
-            mark_at(hosting, word_there(hosting, word as u64 + 7)),
-        ),
+        maker: 0,
+    }
+}
+
+// A value beside activations, by its word.
+fn value_of(hosting: &Hosting, frames: &FrameList, word: u32) -> ShownValue
+    ensures { result ≡ value_shown (host hosting.now).maps (host hosting.now).machine.memory frames.now word }
+{
+    match value_alone(hosting, word) {
+        ShownValue::Block { body, maker: _ } => ShownValue::Block {
+            body,
+            maker: position_at(
+                frames,
+                mark_at(hosting, word_there(hosting, word as u64 + 7)),
+            ),
+        },
+        ShownValue::Int(integer) => ShownValue::Int(integer),
+        ShownValue::Object(object) => ShownValue::Object(object),
     }
 }
 

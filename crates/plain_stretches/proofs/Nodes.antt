@@ -1,6 +1,6 @@
 -- From a node's poll: its step, or a trap.
-use Rattle.std.proofs.Common.{◌≡◌, ℕ, zero, suc, ◌+◌, ◌-◌, ◌*◌, ◌<◌, ◌≤◌, refl, subst, arith, length-append}
-use Rattle.std.specs.Prelude.{Bool, true, false, not, nat_eq, if◌then◌else◌, List, [], ◌∷◌, ◌++◌, length, Some}
+use Rattle.std.proofs.Common.{◌≡◌, ℕ, zero, suc, ◌+◌, ◌-◌, ◌*◌, ◌<◌, ◌≤◌, refl, ap, subst, arith, length-append}
+use Rattle.std.specs.Prelude.{Bool, true, false, not, ◌&&◌, ◌||◌, nat_eq, if◌then◌else◌, List, [], ◌∷◌, ◌++◌, length, Some}
 use Rattle.self_terms.specs.declared.names.Name.{Name}
 use Rattle.self_terms.specs.declared.names.TheConstants.{INT_SUB}
 use Rattle.self_terms.specs.declared.nodes.Node.{Node}
@@ -9,9 +9,11 @@ use Rattle.self_terms.specs.declared.nodes.Selector.{Selector}
 use Rattle.self_terms.specs.Depths.{one_if, depth_from}
 use Rattle.sparc_insn.specs.declared.insn.Insn.TheVariants.{Trap}
 use Rattle.sparc_machine.specs.State.{MachineState}
+use Rattle.source_model.specs.Sends.{Here}
 use Rattle.source_model.specs.State.{Activation, State}
 use Rattle.source_model.specs.Soundness.{body_in}
 use Rattle.source_model.specs.Step.{step}
+use Rattle.raw_steps.specs.Messages.{asked}
 use Rattle.raw_steps.specs.Sends.{here_of}
 use Rattle.raw_steps.specs.Stands.{Sense}
 use Rattle.plain_words.specs.Going.{Goes, IsTrap}
@@ -25,7 +27,7 @@ use Rattle.plain_runs.specs.Host.{Host}
 use Rattle.plain_runs.specs.Sound.{RunsAt}
 use Rattle.plain_runs.specs.Course.{CanGo, code_at}
 use Rattle.plain_runs.proofs.Ready.{there_at, ready_at}
-use Rattle.plain_steps.specs.Steps.{DoesStep, EndsActivity, Performs, InWords, ByService}
+use Rattle.plain_steps.specs.Steps.{DoesStep, EndsActivity, comes_to, IsSummed, IsTrapOf, AsksPrimitive, Performs, InWords, ByService}
 use Rattle.plain_steps.proofs.Summing.{primitives_perform}
 use Rattle.plain_steps.proofs.Here.{AtNode, at_node_of}
 use Rattle.plain_steps.proofs.Words.{self_steps, int_steps, string_steps, nil_steps, drop_steps, depth_is}
@@ -36,9 +38,11 @@ use Rattle.plain_steps.proofs.Storing.{store_steps}
 use Rattle.plain_steps.proofs.Ending.{last_return, last_end}
 use Rattle.plain_sends.specs.Sends.{selector_of}
 use Rattle.plain_sends.proofs.Sending.{nodes_send}
+use Rattle.plain_prims.specs.Asking.{Performed, InWords as DoneInWords, ByService as AskedFor}
+use Rattle.plain_prims.proofs.Asking.{primitives_ask}
 use Rattle.plain_stretches.specs.Gate.{is_built, gated_step}
 use Rattle.plain_stretches.specs.Standing.{IsSound, IsOn, left_of}
-use Rattle.plain_stretches.specs.Stretches.{HasNoBlocks, IsBlockless, Halts, AtGoal, AtSend, AtEnd, AtLack}
+use Rattle.plain_stretches.specs.Stretches.{HasNoBlocks, IsBlockless, Halts, AtGoal, AtSend, AtEnd, AtLack, AtFailure}
 use Rattle.plain_stretches.proofs.Gated.{gate_is, built_step}
 use Rattle.plain_stretches.proofs.Polls.{polls_stop}
 use Rattle.plain_stretches.proofs.Waiting.{polls_wait}
@@ -103,14 +107,75 @@ two_words h b n name args implied handler =
       some_primitive (is_sum name.0 args) (nat_eq name.0 INT_SUB.0) implied locals first (args + one_if handler),
     )
 
--- a primitive is done in words, or asks for its service
-performs : (z : Sense) (h : Host) (s : State) (x : IsSound z h s) → CanGo h → (b n : ℕ) (name : Name) (args : ℕ) (implied handler : Bool) (r : RunsAt h b n (nodes.Prim name args implied handler)) → Performs z h s b n name args implied handler
-    → Done z h s (on_of z h s x b n (nodes.Prim name args implied handler) r)
-performs z h s x can b n name args implied handler r (InWords summed d) =
-    let node = nodes.Prim name args implied handler in
-    let at = at_node_of z h s b n node x.stands r in
-    Steps (simply z h s x b n node r (summed at.young at.older at.at.here)) d
-performs z h s x can b n name args implied handler r (ByService unsummed at stands a) =
+-- The gate of a primitive: it is a sum, has a handler, comes to an integer.
+summed_gate : (sum handler comes : Bool) → (sum && comes) ≡ true → (sum && (not handler || (sum && comes))) ≡ true
+summed_gate true true true e = refl
+summed_gate true true false e = absurd (cc)
+summed_gate true false comes e = refl
+summed_gate false handler comes e = absurd (cc)
+
+bare_gate : (sum handler comes : Bool) → (sum && not handler) ≡ true → (sum && (not handler || (sum && comes))) ≡ true
+bare_gate true true comes e = absurd (cc)
+bare_gate true false comes e = refl
+bare_gate false handler comes e = absurd (cc)
+
+shut_gate : (sum handler comes : Bool) → (sum && comes) ≡ false → (sum && not handler) ≡ false → (sum && (not handler || (sum && comes))) ≡ false
+shut_gate true true true e f = absurd (cc)
+shut_gate true true false e f = refl
+shut_gate true false comes e f = absurd (cc)
+shut_gate false handler comes e f = refl
+
+bare_is : (sum handler : Bool) → (sum && not handler) ≡ true → (sum ≡ true) × (handler ≡ false)
+bare_is true true e = absurd (cc)
+bare_is true false e = (refl, refl)
+bare_is false handler e = absurd (cc)
+
+-- whether a primitive comes to an integer, where it is a sum
+abbrev comes : Name → ℕ → Bool → Bool → Here → Bool
+comes name args implied handler h = comes_to (nat_eq name.0 INT_SUB.0) (asked args implied handler h).receiver (asked args implied handler h).arguments
+
+-- a sum without a handler is built, whatever it comes to
+refuses : (z : Sense) (h : Host) (s : State) (x : IsSound z h s) → CanGo h → (b n : ℕ) (name : Name) (args : ℕ) (implied handler : Bool) (r : RunsAt h b n (nodes.Prim name args implied handler)) → is_sum name.0 args ≡ true → handler ≡ false
+    → IsSummed s name.0 args implied handler false → Performed z h s b n name args implied handler r → Done z h s (on_of z h s x b n (nodes.Prim name args implied handler) r)
+refuses z h s x can b n name args implied true r sum none failing p = absurd (cc)
+refuses z h s x can b n name args implied false r sum none failing (DoneInWords d) =
+    let node = nodes.Prim name args implied false in
+    let y = at_node_of z h s b n node x.stands r in
+    let bare : (is_sum name.0 args && true) ≡ true = ap (λ c. c && true) sum in
+    Steps (simply z h s x b n node r (bare_gate (is_sum name.0 args) false (comes name args implied false (here_of s y.young y.older)) bare)) d
+refuses z h s x can b n name args implied false r sum none failing (AskedFor q) =
+    let node = nodes.Prim name args implied false in
+    let y = at_node_of z h s b n node x.stands r in
+    let bare : (is_sum name.0 args && true) ≡ true = ap (λ c. c && true) sum in
+    Asks (record {
+      instructions = q.asks.instructions;
+      few = omega (arith, q.asks.few);
+      to = q.asks.to;
+      goes = q.asks.goes;
+      trap = 3;
+      stands = q.asks.trap;
+      halts = AtFailure refl (record {
+        can = can;
+        name = name;
+        args = args;
+        implied = implied;
+        is = refl;
+        sum = sum;
+        at = r;
+        performed = q;
+        failing = failing;
+        built = simply z h s x b n node r (bare_gate (is_sum name.0 args) false (comes name args implied false (here_of s y.young y.older)) bare);
+        there = refl;
+      });
+    })
+
+-- a primitive that comes to no integer, by whether it is a sum without a handler
+unsummed : (z : Sense) (h : Host) (s : State) (x : IsSound z h s) → CanGo h → (b n : ℕ) (name : Name) (args : ℕ) (implied handler : Bool) (r : RunsAt h b n (nodes.Prim name args implied handler)) → IsSummed s name.0 args implied handler false
+    → (at : ℕ) → IsTrapOf h b n (nodes.Prim name args implied handler) at → AsksPrimitive h b n args implied handler at → (bare : Bool) → (is_sum name.0 args && not handler) ≡ bare → Done z h s (on_of z h s x b n (nodes.Prim name args implied handler) r)
+unsummed z h s x can b n name args implied handler r failing at stands a true e =
+    let is = bare_is (is_sum name.0 args) handler e in
+    refuses z h s x can b n name args implied handler r is.0 is.1 failing (primitives_ask z h s b n name args implied handler x.stands r can)
+unsummed z h s x can b n name args implied handler r failing at stands a false e =
     let node = nodes.Prim name args implied handler in
     let y = at_node_of z h s b n node x.stands r in
     let words = code_at h b n node in
@@ -118,6 +183,7 @@ performs z h s x can b n name args implied handler r (ByService unsummed at stan
     let some : 2 ≤ length words = two_words h b n name args implied handler in
     let last : at + 8 ≡ h.machine.pc + 4 * length (poll ++ words) = stands in
     let here : at ≡ h.machine.pc + 24 + 4 * (length words - 2) = omega (arith, last, long, some) in
+    let shut = shut_gate (is_sum name.0 args) handler (comes name args implied handler (here_of s y.young y.older)) (failing y.young y.older y.at.here) e in
     Asks (record {
       instructions = a.instructions;
       few = omega (arith, a.few);
@@ -131,11 +197,21 @@ performs z h s x can b n name args implied handler r (ByService unsummed at stan
         sender = y.young;
         older = y.older;
         here = y.at.here;
-        unbuilt = gate_is s y.young y.older node false y.at.here y.at.node_is (unsummed y.young y.older y.at.here);
+        unbuilt = gate_is s y.young y.older node false y.at.here y.at.node_is shut;
+        other = e;
         some = some;
         moved = (let P : ℕ → Type 0 = λ p. Moved h.machine a.to p h.machine.memory (h.machine.regs 2) in subst P here a.moved);
       });
     })
+
+-- a primitive is done in words, or asks for its service
+performs : (z : Sense) (h : Host) (s : State) (x : IsSound z h s) → CanGo h → (b n : ℕ) (name : Name) (args : ℕ) (implied handler : Bool) (r : RunsAt h b n (nodes.Prim name args implied handler)) → Performs z h s b n name args implied handler
+    → Done z h s (on_of z h s x b n (nodes.Prim name args implied handler) r)
+performs z h s x can b n name args implied handler r (InWords summed d) =
+    let node = nodes.Prim name args implied handler in
+    let y = at_node_of z h s b n node x.stands r in
+    Steps (simply z h s x b n node r (summed_gate (is_sum name.0 args) handler (comes name args implied handler (here_of s y.young y.older)) (summed y.young y.older y.at.here))) d
+performs z h s x can b n name args implied handler r (ByService failing at stands a) = unsummed z h s x can b n name args implied handler r failing at stands a (is_sum name.0 args && not handler) refl
 
 node_done : (z : Sense) (h : Host) (s : State) (x : IsSound z h s) → CanGo h → (b n : ℕ) (node : Node) (r : RunsAt h b n node) → HasNoBlocks (body_in h.bodies b) → IsOwn (frame_locals (body_in h.bodies b)) node → IsShort 64 node
     → Done z h s (on_of z h s x b n node r)
@@ -164,7 +240,7 @@ node_done z h s x can b n nodes.NonLocal r plain own short =
     let some = (can.runs b).takes n nodes.NonLocal r.node_is in
     let y = at_node_of z h s b n nodes.NonLocal x.stands r in
     let a = non_local_asks h.machine h.machine.pc (frame_words body) (frame_locals body) (k - 1) (ready_at h b n nodes.NonLocal r can.left) (omega (arith, room, some, depth_is body.nodes n)) in
-    Asks (record { instructions = a.instructions; few = omega (arith, a.few); to = a.to; goes = a.goes; trap = 4; stands = a.trap; halts = AtLack (record { service = refl; can = can; sender = y.young; older = y.older; here = y.at.here; unbuilt = gate_is s y.young y.older nodes.NonLocal false y.at.here y.at.node_is refl; some = omega arith; moved = a.moved }) })
+    Asks (record { instructions = a.instructions; few = omega (arith, a.few); to = a.to; goes = a.goes; trap = 4; stands = a.trap; halts = AtLack (record { service = refl; can = can; sender = y.young; older = y.older; here = y.at.here; unbuilt = gate_is s y.young y.older nodes.NonLocal false y.at.here y.at.node_is refl; other = refl; some = omega arith; moved = a.moved }) })
 node_done z h s x can b n nodes.End r plain own short =
     answers z h s (on_of z h s x b n nodes.End r) can (simply z h s x b n nodes.End r refl) r.view.older (λ o e. end_steps z h s b n o x.stands r can plain.context e) (λ e. last_end z h s b n x.stands r can plain.context e)
 

@@ -1,5 +1,5 @@
 -- What isn't built yet is one gate in front of the source's step: there the activity ends with the error `notBuilt`, at the place of its node.
-use Rattle.std.specs.Prelude.{ℕ, zero, suc, ◌++◌, ◌&&◌, Bool, true, false, not, is_some, if◌then◌else◌, List, [], ◌∷◌, Option, Some, slice_get}
+use Rattle.std.specs.Prelude.{ℕ, zero, suc, ◌++◌, ◌&&◌, ◌||◌, Bool, true, false, not, is_some, if◌then◌else◌, List, [], ◌∷◌, Option, Some, slice_get}
 use Rattle.self_terms.specs.declared.bodies.Body.{Body}
 use Rattle.self_terms.specs.declared.errors.ErrorName.TheVariants as errors
 use Rattle.self_terms.specs.declared.nodes.Node.{Node}
@@ -11,6 +11,7 @@ use Rattle.source_model.specs.State.{Activation, Activity, Running, Failed, Stat
 use Rattle.source_model.specs.Step.{node_at, place_of, step}
 use Rattle.raw_steps.specs.Messages.{asked}
 use Rattle.raw_steps.specs.Sends.{here_of}
+use Rattle.plain_words.specs.Code.{is_sum}
 use Rattle.plain_words.specs.Units.{owns_context}
 use Rattle.plain_steps.specs.Steps.{is_summed}
 use Rattle.plain_sends.specs.Sends.{met_of}
@@ -24,10 +25,15 @@ abbrev pub may_enter : State → Met → Bool
 may_enter s (Holds o (Method b)) = is_blockless (body_of s b.0)
 may_enter s met = true
 
--- So are built: a primitive that is a sum or a difference of two integers which comes to one; and every other node, but for what its message
+-- a sum or a difference that has no handler: it may fail
+abbrev pub is_bare_sum : Node → Bool
+is_bare_sum (nodes.Prim name args implied handler) = is_sum name.0 args && not handler
+is_bare_sum node = false
+
+-- So are built: a primitive that is a sum or a difference, and has no handler or comes to an integer; and every other node, but for what its message
 -- would enter. No block is made, so that none returns from a home method.
 abbrev pub is_built : Here → Node → Bool
-is_built h (nodes.Prim name args implied handler) = is_summed name.0 args (asked args implied handler h)
+is_built h (nodes.Prim name args implied handler) = is_sum name.0 args && (not handler || is_summed name.0 args (asked args implied handler h))
 is_built h nodes.NonLocal = false
 is_built h node = may_enter h.state (met_of node h.state h.young)
 

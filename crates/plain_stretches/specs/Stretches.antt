@@ -1,5 +1,6 @@
 -- A stretch: how words go on to the next trap.
-use Rattle.std.specs.Prelude.{◌≡◌, ◌≢◌, ℕ, suc, ◌+◌, ◌-◌, ◌*◌, ◌^◌, ◌<◌, ◌≤◌, false, List, [], ◌∷◌, length, Option, Some, None, slice_get}
+use Rattle.std.specs.Prelude.{◌≡◌, ◌≢◌, ℕ, suc, ◌+◌, ◌-◌, ◌*◌, ◌^◌, ◌<◌, ◌≤◌, Bool, true, false, List, [], ◌∷◌, length, Option, Some, None, slice_get}
+use Rattle.self_terms.specs.declared.names.Name.{Name}
 use Rattle.self_terms.specs.declared.nodes.Node.{Node}
 use Rattle.self_terms.specs.declared.nodes.Node.TheVariants as nodes
 use Rattle.self_terms.specs.declared.nodes.Selector.{Selector}
@@ -10,6 +11,7 @@ use Rattle.source_model.specs.State.{Activation, Running, State, Reached, silent
 use Rattle.source_model.specs.Soundness.{body_in, HasBody, IsFit}
 use Rattle.source_model.specs.Step.{step}
 use Rattle.raw_steps.specs.Stands.{Sense}
+use Rattle.plain_words.specs.Code.{is_sum}
 use Rattle.plain_words.specs.Going.{Goes, IsTrap}
 use Rattle.plain_words.specs.Moves.{Moved}
 use Rattle.plain_words.specs.Units.{owns_context}
@@ -18,9 +20,10 @@ use Rattle.plain_runs.specs.Units.{HasUnit}
 use Rattle.plain_runs.specs.Services.{data_answers}
 use Rattle.plain_runs.specs.Sound.{RunsAt}
 use Rattle.plain_runs.specs.Course.{with_machine, CanGo, AllRun, code_at}
-use Rattle.plain_steps.specs.Steps.{StandsFor, DoesStep, EndsActivity}
+use Rattle.plain_steps.specs.Steps.{StandsFor, DoesStep, EndsActivity, IsSummed}
 use Rattle.plain_sends.specs.Sends.{selector_of, met_of, IsSent, IsData}
-use Rattle.plain_stretches.specs.Gate.{not_built, gated_step, gated_run}
+use Rattle.plain_prims.specs.Asking.{IsPerformed}
+use Rattle.plain_stretches.specs.Gate.{is_bare_sum, not_built, gated_step, gated_run}
 use Rattle.plain_stretches.specs.Runs.{RunsTo}
 use Rattle.plain_stretches.specs.Standing.{IsOn, IsSet, Waits, left_of}
 
@@ -72,8 +75,23 @@ pub record Lacks (z : Sense) (h : Host) (s : State) (on : IsOn z h s) (trap : �
   pub older : List Activation
   pub here : slice_get s.activities s.current ≡ Some (Running (sender ∷ older))
   pub unbuilt : gated_step s ≡ silent (not_built s sender)
+  pub other : is_bare_sum on.node ≡ false
   pub some : 2 ≤ length (code_at h on.body on.number on.node)
   pub moved : Moved h.machine to (h.machine.pc + 24 + 4 * asking on.node (length (code_at h on.body on.number on.node))) h.machine.memory (h.machine.regs 2)
+
+-- A sum or a difference that has no handler and comes to no integer has led to service 3: its step is built, and fails.
+pub record Refuses (z : Sense) (h : Host) (s : State) (on : IsOn z h s) (to : MachineState) : Type 0 where
+  pub can : CanGo h
+  pub name : Name
+  pub args : ℕ
+  pub implied : Bool
+  pub is : on.node ≡ nodes.Prim name args implied false
+  pub sum : is_sum name.0 args ≡ true
+  pub at : RunsAt h on.body on.number (nodes.Prim name args implied false)
+  pub performed : IsPerformed z h s on.body on.number name args implied false at
+  pub failing : IsSummed s name.0 args implied false false
+  pub built : gated_step s ≡ step s
+  pub there : to ≡ performed.asks.to
 
 -- Why the machine of a host, from a node's poll, has come to a trap of a number: nothing was left of the goal, or else for its node.
 pub data Halts (z : Sense) (h : Host) (s : State) (on : IsOn z h s) (trap : ℕ) (to : MachineState) : Type 0 where
@@ -81,6 +99,7 @@ pub data Halts (z : Sense) (h : Host) (s : State) (on : IsOn z h s) (trap : ℕ)
   AtSend : trap ≡ 1 → Sends z h s on to → Halts z h s on trap to
   AtEnd : trap ≡ 9 → Ends z h s to → Halts z h s on trap to
   AtLack : Lacks z h s on trap to → Halts z h s on trap to
+  AtFailure : trap ≡ 3 → Refuses z h s on to → Halts z h s on trap to
 
 -- Where the goal is `left` steps away: so many of the source's steps, which are built and print nothing, are done by words, and lead to the poll of a
 -- node, with the rest left of the goal; and from there to a trap. A step takes at most 512 instructions.

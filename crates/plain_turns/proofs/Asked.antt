@@ -35,7 +35,7 @@ use Rattle.plain_lookups.specs.Telling.{MayLook, start_of, begins_at, found_by, 
 use Rattle.plain_lookups.proofs.Telling.{founds_tell}
 use Rattle.plain_stretches.specs.Gate.{may_enter, is_built, not_built, gated_step}
 use Rattle.plain_stretches.specs.Standing.{left_of}
-use Rattle.plain_stretches.specs.Stretches.{Halts, AtGoal, AtSend, AtEnd, AtLack, Sends}
+use Rattle.plain_stretches.specs.Stretches.{Halts, AtGoal, AtSend, AtEnd, AtLack, AtFailure, Sends}
 use Rattle.plain_stretches.proofs.Gated.{gate_is}
 use Rattle.plain_turns.specs.Asking.{count, body_here, node_here, place_here, found_for, found_here, behind_poll}
 use Rattle.plain_turns.specs.Resting.{IsAtTrap}
@@ -49,6 +49,7 @@ sends_at h trap from target x one (AtGoal e none w) = absurd (omega (arith, e, o
 sends_at h trap from target x one (AtSend e q) = q
 sends_at h trap from target x one (AtEnd e q) = absurd (omega (arith, e, one))
 sends_at h trap from target x one (AtLack q) = elim (lacks_is x.on.node trap q.service) [ inl e ↦ absurd (omega (arith, e, one)) | inr e ↦ absurd (omega (arith, e, one)) ]
+sends_at h trap from target x one (AtFailure e q) = absurd (omega (arith, e, one))
 
 -- a message has at most five arguments
 few_arguments : (node : Node) (sel : Selector) → selector_of node ≡ Some sel → IsShort 64 node → sel.args ≤ 5

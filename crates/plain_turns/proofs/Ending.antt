@@ -1,8 +1,9 @@
 -- A run ends.
 use Rattle.std.proofs.Common.{◌≡◌, ◌≢◌, ℕ, zero, suc, ◌+◌, ◌-◌, ◌<◌, ◌≤◌, refl, ◌∙◌, ap, sym, subst, arith, inl, inr}
-use Rattle.std.specs.Prelude.{Bool, ◌⊎◌, List, [], ◌∷◌, Option, Some, None, slice_get, slice_set}
+use Rattle.std.specs.Prelude.{Bool, true, false, ◌&&◌, ◌⊎◌, List, [], ◌∷◌, Option, Some, None, slice_get, slice_set}
 use Rattle.self_terms.specs.declared.errors.ErrorName.{ErrorName}
 use Rattle.self_terms.specs.declared.errors.ErrorName.TheVariants as errors
+use Rattle.self_terms.specs.declared.nodes.Node.TheVariants as nodes
 use Rattle.self_terms.specs.declared.nodes.Place.{Place}
 use Rattle.self_terms.specs.declared.values.Value.{Value}
 use Rattle.sparc_machine.specs.State.{MachineState}
@@ -23,17 +24,17 @@ use Rattle.plain_answers.specs.Failing.{PlainUnits}
 use Rattle.plain_answers.proofs.Failing.{activities_end}
 use Rattle.plain_stretches.specs.Gate.{gated_step, gated_run}
 use Rattle.plain_stretches.specs.Standing.{left_of, IsSound}
-use Rattle.plain_stretches.specs.Stretches.{Halts, AtGoal, AtSend, AtEnd, AtLack}
+use Rattle.plain_stretches.specs.Stretches.{Halts, AtGoal, AtSend, AtEnd, AtLack, AtFailure, Refuses}
 use Rattle.plain_stretches.proofs.Closing.{ends_settle, failures_settle}
 use Rattle.plain_stretches.proofs.Gated.{then_gated, answered_rests, failed_rests}
 use Rattle.plain_stretches.proofs.Joining.{runs_join}
 use Rattle.plain_stretches.proofs.Owned.{blockless_on, blockless_units}
 use Rattle.plain_stretches.proofs.Settled.{set_there}
-use Rattle.plain_turns.specs.Asking.{place_here, place_before}
+use Rattle.plain_turns.specs.Asking.{node_here, place_here, place_before, is_bare, bare_sum_here}
 use Rattle.plain_turns.specs.Resting.{IsAtTrap, HasRun}
 use Rattle.plain_turns.specs.Turns.{GoalsEnd, AnswersEnd, PrimitivesEnd, ReturnsEnd}
 use Rattle.plain_turns.proofs.Formed.{failed_formed, gated_forms}
-use Rattle.plain_turns.proofs.Places.{Stood, Behind, Before, lacks_stood, behind_place, before_place}
+use Rattle.plain_turns.proofs.Places.{Stood, Behind, Before, node_points, refused_points, lacks_stood, behind_place, before_place}
 use Rattle.plain_turns.proofs.Running.{lacks_is}
 
 by_count : (a b : ℕ) (r : Reached) → a ≡ b → gated_run a r ≡ gated_run b r
@@ -103,6 +104,7 @@ goal_at h trap from target x two (AtGoal e none w) = (
 goal_at h trap from target x two (AtSend e q) = absurd (omega (arith, e, two))
 goal_at h trap from target x two (AtEnd e q) = absurd (omega (arith, e, two))
 goal_at h trap from target x two (AtLack q) = elim (lacks_is x.on.node trap q.service) [ inl e ↦ absurd (omega (arith, e, two)) | inr e ↦ absurd (omega (arith, e, two)) ]
+goal_at h trap from target x two (AtFailure e q) = absurd (omega (arith, e, two))
 
 pub goals_end : GoalsEnd
 goals_end h from target x = goal_at h 2 from target x refl x.halts
@@ -133,6 +135,7 @@ answer_at : (h : Host) (trap : ℕ) (from : State) (target : ℕ) → (x : IsAtT
 answer_at h trap from target x nine (AtGoal e none w) goal cost few = absurd (omega (arith, e, nine))
 answer_at h trap from target x nine (AtSend e q) goal cost few = absurd (omega (arith, e, nine))
 answer_at h trap from target x nine (AtLack q) goal cost few = elim (lacks_is x.on.node trap q.service) [ inl e ↦ absurd (omega (arith, e, nine)) | inr e ↦ absurd (omega (arith, e, nine)) ]
+answer_at h trap from target x nine (AtFailure e q) goal cost few = absurd (omega (arith, e, nine))
 answer_at h trap from target x nine (AtEnd e q) goal cost few =
     let at = with_machine h x.last in
     let s = x.state in
@@ -163,28 +166,44 @@ answers_end h from target x goal cost few = answer_at h 9 from target x refl x.h
 
 -- A service isn't built.
 lack_at : (h : Host) (trap : ℕ) (from : State) (target : ℕ) → (x : IsAtTrap h trap from target) → (place : Place) → Halts x.sense (with_machine h x.last) x.state x.on trap h.machine → (trap ≡ 3) ⊎ (trap ≡ 4)
+    → (trap ≡ 3 → Refuses x.sense (with_machine h x.last) x.state x.on h.machine → ⊥)
     → ((a : Activation) (older : List Activation) → slice_get x.state.activities x.state.current ≡ Some (Running (a ∷ older)) → Stood (with_machine h x.last) x.on.body x.on.number trap h.machine → place_of x.state a ≡ place)
     → (goal cost : ℕ) → goal ≤ 1000000000 → HasRun (fails goal cost errors.NotBuilt place h) from target
-lack_at h trap from target x place (AtGoal e none w) lacks is goal cost few = elim lacks [ inl f ↦ absurd (omega (arith, e, f)) | inr f ↦ absurd (omega (arith, e, f)) ]
-lack_at h trap from target x place (AtSend e q) lacks is goal cost few = elim lacks [ inl f ↦ absurd (omega (arith, e, f)) | inr f ↦ absurd (omega (arith, e, f)) ]
-lack_at h trap from target x place (AtEnd e q) lacks is goal cost few = elim lacks [ inl f ↦ absurd (omega (arith, e, f)) | inr f ↦ absurd (omega (arith, e, f)) ]
-lack_at h trap from target x place (AtLack q) lacks is goal cost few =
+lack_at h trap from target x place (AtGoal e none w) lacks never is goal cost few = elim lacks [ inl f ↦ absurd (omega (arith, e, f)) | inr f ↦ absurd (omega (arith, e, f)) ]
+lack_at h trap from target x place (AtSend e q) lacks never is goal cost few = elim lacks [ inl f ↦ absurd (omega (arith, e, f)) | inr f ↦ absurd (omega (arith, e, f)) ]
+lack_at h trap from target x place (AtEnd e q) lacks never is goal cost few = elim lacks [ inl f ↦ absurd (omega (arith, e, f)) | inr f ↦ absurd (omega (arith, e, f)) ]
+lack_at h trap from target x place (AtFailure e q) lacks never is goal cost few = absurd (never e q)
+lack_at h trap from target x place (AtLack q) lacks never is goal cost few =
     let at = with_machine h x.last in
     let stood = lacks_stood x.sense at x.state x.on trap h.machine q in
     let same = is q.sender q.older q.here stood in
     let now : gated_step x.state ≡ silent (with_current (Ended_by errors.NotBuilt place) x.state) = q.unbuilt ∙ ap (λ p. silent (with_current (Ended_by errors.NotBuilt p) x.state)) same in
     error_ends h trap from target x _ q.can q.moved q.sender q.older q.here errors.NotBuilt place now goal cost few
 
+-- the node of a sum or a difference that fails
+pub refused_bare : (h : Host) (trap : ℕ) (from : State) (target : ℕ) → (x : IsAtTrap h trap from target) → Refuses x.sense (with_machine h x.last) x.state x.on h.machine → bare_sum_here h ≡ true
+refused_bare h trap from target x q =
+    let at = with_machine h x.last in
+    let points = refused_points x.sense at x.state x.on h.machine q in
+    let node_is : node_here h ≡ Some (nodes.Prim q.name q.args q.implied false) = node_points h x.on.body x.on.number points ∙ q.at.node_is in
+    ap is_bare node_is ∙ ap (λ c. c && true) q.sum
+
 pub primitives_end : PrimitivesEnd
-primitives_end h from target x goal cost few =
-    lack_at h 3 from target x (place_here h) x.halts (inl refl) (λ a older running stood. elim stood [
+primitives_end h from target x other goal cost few =
+    lack_at h 3 from target x (place_here h) x.halts (inl refl)
+    (λ e q. (let bare : bare_sum_here h ≡ true = refused_bare h 3 from target x q in let both : true ≡ false = sym bare ∙ other in absurd (cc)))
+    (λ a older running stood. elim stood [
       | Behind e p ↦ behind_place x.sense (with_machine h x.last) x.state x.on h.machine a older running p
       | Before e p ↦ absurd (omega (arith, e))
-    ]) goal cost few
+    ])
+    goal cost few
 
 pub returns_end : ReturnsEnd
 returns_end h from target x goal cost few =
-    lack_at h 4 from target x (place_before h) x.halts (inr refl) (λ a older running stood. elim stood [
+    lack_at h 4 from target x (place_before h) x.halts (inr refl)
+    (λ e q. absurd (omega (arith, e)))
+    (λ a older running stood. elim stood [
       | Behind e p ↦ absurd (omega (arith, e))
       | Before e p ↦ before_place x.sense (with_machine h x.last) x.state x.on h.machine a older running p
-    ]) goal cost few
+    ])
+    goal cost few

@@ -3,6 +3,7 @@ pub mod Back
 pub mod Running
 pub mod Places
 pub mod Ending
+pub mod Failing
 pub mod Asked
 pub mod Telling
 pub mod Answering

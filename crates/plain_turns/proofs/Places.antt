@@ -1,6 +1,6 @@
 -- Where a machine stands that has asked for a service.
 use Rattle.std.proofs.Common.{◌≡◌, ℕ, suc, ◌+◌, ◌-◌, ◌*◌, ◌≤◌, refl, ◌∙◌, ap, sym, arith, length-append}
-use Rattle.std.specs.Prelude.{List, ◌∷◌, ◌++◌, length, Some, slice_get}
+use Rattle.std.specs.Prelude.{false, List, ◌∷◌, ◌++◌, length, Some, slice_get}
 use Rattle.std.proofs.lemmas.Option.{same_Some, none-some}
 use Rattle.self_terms.specs.declared.nodes.Node.{Node}
 use Rattle.self_terms.specs.declared.nodes.Node.TheVariants as nodes
@@ -18,7 +18,7 @@ use Rattle.plain_runs.specs.Course.{with_machine, code_at}
 use Rattle.plain_runs.proofs.Pointed.{call_descriptor, in_poll_descriptor, next_offset}
 use Rattle.plain_answers.proofs.Failing.{places_agree}
 use Rattle.plain_stretches.specs.Standing.{IsOn}
-use Rattle.plain_stretches.specs.Stretches.{asking, lacking, Sends, Lacks}
+use Rattle.plain_stretches.specs.Stretches.{asking, lacking, Sends, Lacks, Refuses}
 use Rattle.plain_turns.specs.Asking.{number_here, node_here, place_here, place_before}
 
 -- what a point says, by its descriptor
@@ -83,6 +83,13 @@ module _ (z : Sense) (h : Host) (s : State) (on : IsOn z h s) where
 
   pub sent_place : (to : MachineState) (a : Activation) (older : List Activation) → slice_get s.activities s.current ≡ Some (Running (a ∷ older)) → Sends z h s on to → place_of s a ≡ place_here (with_machine h to)
   sent_place to a older running q = source_place a older running ∙ sym (place_points (with_machine h to) on.body on.number (sent_points to q))
+
+  -- at that of a sum or a difference that fails
+  pub refused_points : (to : MachineState) → Refuses z h s on to → Points (with_machine h to) (to.pc + 4) on.body on.number
+  refused_points to q =
+      let p = q.performed in
+      let here : p.at + 4 ≡ to.pc + 4 = ap (λ k. k + 4) (sym (ap (λ (m : MachineState). m.pc) q.there ∙ p.asks.moved.stands.here)) in
+      points_on h to (p.at + 4) (to.pc + 4) on.body on.number here (call_points h (p.at + 4) on.body on.number (nodes.Prim q.name q.args q.implied false) p.behind)
 
   pub lacks_stood : (trap : ℕ) (to : MachineState) → Lacks z h s on trap to → Stood h on.body on.number trap to
   lacks_stood trap to q = lack_stood h on.body on.number trap on.node to on.at q.service q.some q.moved.stands.here

@@ -13,7 +13,7 @@ use Rattle.plain_runs.specs.declared.status.Status.TheVariants.{Waiting}
 use Rattle.plain_runs.specs.Course.{with_machine}
 use Rattle.plain_begins.specs.Begins.{CanPark, AtPoll, Idle}
 use Rattle.plain_stretches.specs.Standing.{IsOn}
-use Rattle.plain_stretches.specs.Stretches.{IsBlockless, lacking, Halts, AtGoal, AtSend, AtEnd, AtLack}
+use Rattle.plain_stretches.specs.Stretches.{IsBlockless, lacking, Halts, AtGoal, AtSend, AtEnd, AtLack, AtFailure}
 use Rattle.plain_stretches.proofs.Gated.{none_gated}
 use Rattle.plain_stretches.proofs.Joining.{runs_join}
 use Rattle.plain_stretches.proofs.Owned.{blockless_on}
@@ -69,6 +69,10 @@ counted_at z h s on trap to (AtEnd e q) =
     let same : to.regs 2 ≡ q.ends.to.regs 2 = ap (λ (m : MachineState). m.regs 2) q.there in
     omega (arith, after, same, q.ends.counted)
 counted_at z h s on trap to (AtLack q) = let before : h.steps + h.machine.regs 2 ≡ s.steps = on.sound.stands.stands.steps in omega (arith, before, q.moved.counted)
+counted_at z h s on trap to (AtFailure e q) =
+    let before : h.steps + h.machine.regs 2 ≡ s.steps = on.sound.stands.stands.steps in
+    let same : to.regs 2 ≡ h.machine.regs 2 = ap (λ (m : MachineState). m.regs 2) q.there ∙ q.performed.asks.moved.counted in
+    omega (arith, before, same)
 
 pub runs_come : RunsCome
 runs_come h from target most g far =
@@ -110,6 +114,7 @@ service_at z h s on trap to (AtGoal e none w) = inr (inl e)
 service_at z h s on trap to (AtSend e q) = inl e
 service_at z h s on trap to (AtEnd e q) = inr (inr (inr (inr e)))
 service_at z h s on trap to (AtLack q) = elim (lacks_is on.node trap q.service) [ inl e ↦ inr (inr (inl e)) | inr e ↦ inr (inr (inr (inl e))) ]
+service_at z h s on trap to (AtFailure e q) = inr (inr (inl e))
 
 -- the plain cost at a trap
 cost_at : (z : Sense) (h : Host) (s : State) (on : IsOn z h s) (trap : ℕ) (to : MachineState) → Halts z h s on trap to → h.cost + to.regs 3 ≤ 4194304
@@ -127,6 +132,10 @@ cost_at z h s on trap to (AtEnd e q) =
 cost_at z h s on trap to (AtLack q) =
     let before : h.cost + h.machine.regs 3 ≡ s.cost = on.sound.stands.stands.cost in
     omega (arith, before, on.sound.stands.stands.within, q.moved.kept 3 refl)
+cost_at z h s on trap to (AtFailure e q) =
+    let before : h.cost + h.machine.regs 3 ≡ s.cost = on.sound.stands.stands.cost in
+    let same : to.regs 3 ≡ h.machine.regs 3 = ap (λ (m : MachineState). m.regs 3) q.there ∙ q.performed.asks.moved.kept 3 refl in
+    omega (arith, before, on.sound.stands.stands.within, same)
 
 -- and it is within the run
 near_at : (z : Sense) (h : Host) (s : State) (on : IsOn z h s) (trap : ℕ) (to : MachineState) → Halts z h s on trap to → h.steps + to.regs 2 ≤ s.steps + 1
@@ -140,6 +149,10 @@ near_at z h s on trap to (AtEnd e q) =
     let same : to.regs 2 ≡ q.ends.to.regs 2 = ap (λ (m : MachineState). m.regs 2) q.there in
     omega (arith, after, same, q.ends.counted)
 near_at z h s on trap to (AtLack q) = let before : h.steps + h.machine.regs 2 ≡ s.steps = on.sound.stands.stands.steps in omega (arith, before, q.moved.counted)
+near_at z h s on trap to (AtFailure e q) =
+    let before : h.steps + h.machine.regs 2 ≡ s.steps = on.sound.stands.stands.steps in
+    let same : to.regs 2 ≡ h.machine.regs 2 = ap (λ (m : MachineState). m.regs 2) q.there ∙ q.performed.asks.moved.counted in
+    omega (arith, before, same)
 
 pub objects_count : ObjectsCount
 objects_count h trap from target x = sym x.on.sound.stands.stands.heap.numbered

@@ -1,5 +1,5 @@
 -- How machine and host are reached: by instructions and services alone.
-use Rattle.std.specs.Prelude.{◌≡◌, ℕ, ◌+◌, ◌-◌, ◌*◌, ◌≤◌, false, Some, slice_get}
+use Rattle.std.specs.Prelude.{◌≡◌, ℕ, ◌+◌, ◌-◌, ◌*◌, ◌≤◌, true, false, Some, slice_get}
 use Rattle.self_terms.specs.declared.errors.ErrorName.{ErrorName}
 use Rattle.self_terms.specs.declared.errors.ErrorName.TheVariants as errors
 use Rattle.self_terms.specs.declared.values.BodyId.{BodyId}
@@ -17,10 +17,10 @@ use Rattle.plain_answers.specs.Found.{error_of}
 use Rattle.plain_answers.specs.Whole.{whole}
 use Rattle.plain_units.specs.Putting.{IsPut}
 use Rattle.plain_stretches.specs.Gate.{is_blockless}
-use Rattle.plain_turns.specs.Asking.{place_here, place_before, found_here, goes_back}
+use Rattle.plain_turns.specs.Asking.{place_here, place_before, found_here, goes_back, bare_sum_here, sum_error}
 
--- A service: 2 at a poll where a run begins or ends; 1 at a message, by what a lookup finds; 9 where the oldest activation has answered; and what
--- isn't built.
+-- A service: 2 at a poll where a run begins or ends; 1 at a message, by what a lookup finds; 9 where the oldest activation has answered; 3 at a sum
+-- that fails; and what isn't built.
 pub data Serves (room : ℕ) (h : Host) : Host → Type 0 where
   Begins : (goal cost : ℕ) → Serves room h (goes_back 0 goal cost h)
   Waits : IsTrap 2 h.machine → (goal cost : ℕ) → Serves room h (waits goal cost h)
@@ -31,7 +31,8 @@ pub data Serves (room : ℕ) (h : Host) : Host → Type 0 where
   Misses : IsTrap 1 h.machine → (goal cost : ℕ) (e : ErrorName) → error_of (found_here room h) ≡ Some e → Serves room h (fails goal cost e (place_here h) h)
   Overflows : IsTrap 1 h.machine → (goal cost holder : ℕ) (c : BodyId) → found_here room h ≡ One holder (Method c) → 4096 ≤ h.machine.regs 4 → Serves room h (fails goal cost errors.StackOverflow (place_here h) h)
   Unbuilt : IsTrap 1 h.machine → (goal cost holder : ℕ) (c : BodyId) → found_here room h ≡ One holder (Method c) → is_blockless (body_in h.bodies c.0) ≡ false → Serves room h (fails goal cost errors.NotBuilt (place_here h) h)
-  Performs : IsTrap 3 h.machine → (goal cost : ℕ) → Serves room h (fails goal cost errors.NotBuilt (place_here h) h)
+  Refuses : IsTrap 3 h.machine → (goal cost : ℕ) → bare_sum_here h ≡ true → Serves room h (fails goal cost (sum_error h) (place_here h) h)
+  Performs : IsTrap 3 h.machine → (goal cost : ℕ) → bare_sum_here h ≡ false → Serves room h (fails goal cost errors.NotBuilt (place_here h) h)
   Returns : IsTrap 4 h.machine → (goal cost : ℕ) → Serves room h (fails goal cost errors.NotBuilt (place_before h) h)
   Ends : IsTrap 9 h.machine → (goal cost : ℕ) → Serves room h (ends goal cost h)
 

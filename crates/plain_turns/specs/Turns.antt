@@ -26,7 +26,7 @@ use Rattle.plain_lookups.specs.Telling.{MayLook, start_of}
 use Rattle.plain_units.specs.Putting.{IsPut}
 use Rattle.plain_stretches.specs.Gate.{is_blockless}
 use Rattle.plain_stretches.specs.Runs.{RunsTo}
-use Rattle.plain_turns.specs.Asking.{count, body_here, node_here, place_here, place_before, found_here, behind_poll, goes_back}
+use Rattle.plain_turns.specs.Asking.{count, body_here, node_here, place_here, place_before, found_here, behind_poll, goes_back, bare_sum_here, sum_error}
 use Rattle.plain_turns.specs.Rooms.{unmade}
 use Rattle.plain_turns.specs.Resting.{Rests, IsGoing, IsAtTrap, HasRun}
 
@@ -71,7 +71,11 @@ abbrev pub AnswersEnd : Type 0
 AnswersEnd = (h : Host) (from : State) (target : ℕ) → IsAtTrap h 9 from target → (goal cost : ℕ) → goal ≤ 1000000000 → HasRun (ends goal cost h) from target
 
 abbrev pub PrimitivesEnd : Type 0
-PrimitivesEnd = (h : Host) (from : State) (target : ℕ) → IsAtTrap h 3 from target → (goal cost : ℕ) → goal ≤ 1000000000 → HasRun (fails goal cost errors.NotBuilt (place_here h) h) from target
+PrimitivesEnd = (h : Host) (from : State) (target : ℕ) → IsAtTrap h 3 from target → bare_sum_here h ≡ false → (goal cost : ℕ) → goal ≤ 1000000000 → HasRun (fails goal cost errors.NotBuilt (place_here h) h) from target
+
+-- A sum or a difference that has no handler fails there.
+abbrev pub SumsEnd : Type 0
+SumsEnd = (h : Host) (from : State) (target : ℕ) → IsAtTrap h 3 from target → bare_sum_here h ≡ true → (goal cost : ℕ) → goal ≤ 1000000000 → HasRun (fails goal cost (sum_error h) (place_here h) h) from target
 
 abbrev pub ReturnsEnd : Type 0
 ReturnsEnd = (h : Host) (from : State) (target : ℕ) → IsAtTrap h 4 from target → (goal cost : ℕ) → goal ≤ 1000000000 → HasRun (fails goal cost errors.NotBuilt (place_before h) h) from target

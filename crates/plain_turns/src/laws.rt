@@ -1,5 +1,5 @@
 // Laws of turns.
-ghost use Rattle.plain_turns.specs.Turns.{AnswersEnd, AssignmentsTurn, CallsTurn, DataTurns, FieldsAreRead, GoalsEnd, MessagesAsk, MethodsAreThere, MissesEnd, ObjectsCount, OverflowsEnd, PrimitivesEnd, ReturnsEnd, RunsBegin, RunsCome, TrapsTell, UnbuiltEnd, UnitsFit, UnitsTurn};
+ghost use Rattle.plain_turns.specs.Turns.{AnswersEnd, AssignmentsTurn, CallsTurn, DataTurns, FieldsAreRead, GoalsEnd, MessagesAsk, MethodsAreThere, MissesEnd, ObjectsCount, OverflowsEnd, PrimitivesEnd, ReturnsEnd, RunsBegin, RunsCome, SumsEnd, TrapsTell, UnbuiltEnd, UnitsFit, UnitsTurn};
 
 /// A law: a run begins at the poll at which the current activity rests.
 pub fn runs_begin()
@@ -13,11 +13,13 @@ pub fn runs_come()
     ensures objects { ObjectsCount }
 {}
 
-/// A law: a run ends where its goal is met, where the oldest activation answers, and where a service isn't built.
+/// A law: a run ends where its goal is met, where the oldest activation answers, where a sum or a difference without a handler fails, and where a
+/// service isn't built.
 pub fn runs_end()
     ensures goal { GoalsEnd }
     ensures answer { AnswersEnd }
     ensures primitive { PrimitivesEnd }
+    ensures sum { SumsEnd }
     ensures home { ReturnsEnd }
 {}
 

@@ -1,6 +1,6 @@
 -- What the word of a value shows.
 use Rattle.std.proofs.Common.{◌≡◌, ℕ, zero, suc, ◌+◌, ◌-◌, ◌*◌, ◌/◌, ◌%◌, ◌^◌, ◌≤◌, refl, ap, sym, subst, ◌∙◌, Bool, true, false, ◌&&◌, arith}
-use Rattle.std.specs.Prelude.{List, [], ◌∷◌, Option, Some, map, is_some, slice_get, unwrap_or, nat_eq, nat_lt, nat_le, ℤ, pos, negsuc}
+use Rattle.std.specs.Prelude.{List, [], ◌∷◌, Option, Some, map, is_some, slice_get, unwrap_or, nat_eq, nat_lt, nat_le, if◌then◌else◌, ℤ, pos, negsuc}
 use Rattle.std.proofs.lemmas.Bool.{eq-eqb, ne_eqb, cond-true, cond-false, lt-ltb, le-ltb, le-leb}
 use Rattle.std.proofs.lemmas.Option.{slice_get_within}
 use Rattle.self_terms.specs.Words.{IsSmall, word_of, int_of}
@@ -27,7 +27,7 @@ use Rattle.raw_steps.specs.Stands.{Sense, IsActivity, AreActivations, makes_bloc
 use Rattle.session_text.specs.declared.lines.ShownValue.TheVariants as shown
 use Rattle.session_text.specs.Values.{as_shown}
 use Rattle.shown_frames.specs.Showing.{position_of, position_at, mark_at, is_block_map, reference_shown, value_shown}
-use Rattle.shown_frames.specs.Standing.{HasHeap, AreOf}
+use Rattle.shown_frames.specs.Standing.{HasHeap, AreOf, EndedShow}
 use Rattle.shown_frames.proofs.Marks.{none_ended, marks_place}
 
 integer_back : (i : ℤ) → IsSmall i → int_of (word_of i) ≡ i
@@ -93,6 +93,52 @@ as_activity wants z at all frames x t e f is =
     let P : Option Activity → Option Thread → Type 0 = λ y u. IsActivity wants z at y u in
     subst (P (Some (Running all))) f (subst (λ y. P y t) e is)
 
+-- the marks of contexts tell the positions of these activations among these frames
+abbrev MarksTell : Store → Places → List Activation → List Frame → Type 0
+MarksTell memory p all frames = (k context : ℕ) → slice_get p.contexts k ≡ Some context → context % 4 ≡ 1 → position_at frames (mark_at memory context) ≡ unwrap_or (position_in all k) 0
+
+module _ (maps : List Slots) (memory : Store) (heap : Heap) (h : Cells) (p : Places) (things : List Thing) (made : List Made) (is : IsHeap maps memory heap h p things made) where
+  of_reference : (frames : List Frame) (w : ℕ) (c : Cell) (b : Bool) → RefersTo h w c → is_block_map maps (map_in c) ≡ b → value_shown maps memory frames w ≡ reference_shown b memory frames w
+  of_reference frames w c b there test =
+      let tagged = there.0 in
+      cond-false (nat_eq (w % 4) 0) (shown.Int (int_of w)) (reference_shown (is_block_map maps (map_at memory w)) memory frames w) (ne_eqb (w % 4) 0 (λ e. omega arith))
+      ∙ ap (λ q. reference_shown q memory frames w) (ap (is_block_map maps) (map_of_cell memory heap.top w h c is.laid there) ∙ test)
+
+  pub numbered_shows : (n w : ℕ) → slice_get p.objects n ≡ Some w → number_at memory w ≡ n
+  numbered_shows n w at =
+      let number = ((heap_sound maps memory heap h p things made is).object n w at).numbered in
+      omega arith
+
+  pub told_shows : (all : List Activation) (frames : List Frame) → MarksTell memory p all frames → (v : Value) (w : ℕ) → IsValue h p v w → value_shown maps memory frames w ≡ as_shown all v
+  told_shows all frames marks (values.Int i) w value =
+      cond-true (nat_eq (w % 4) 0) (shown.Int (int_of w)) (reference_shown (is_block_map maps (map_at memory w)) memory frames w) (eq-eqb (w % 4) 0 (ap (λ q. q % 4) value.1 ∙ integer_aligned i value.0))
+      ∙ ap shown.Int (ap int_of value.1 ∙ integer_back i value.0)
+  told_shows all frames marks (values.Object n) w value =
+      let t = got_if things n (let lt = slice_get_within p.objects n w value in let len = is.means.objects_all in omega arith) in
+      let o = is.means.object n w t.0 value t.1 in
+      of_reference frames w o.cell false o.there (thing_map maps h p n t.0 o.cell o.is (is.told (w - 1) o.cell o.there.1))
+      ∙ ap shown.Object (numbered_shows n w value)
+  told_shows all frames marks (values.Block body maker) w value =
+      let b = read_block maps memory heap h p things made is w maker body value in
+      let c : Cell = Block value.map body.0 value.context value.receiver in
+      let told = is.told (w - 1) c value.cell in
+      let body_word = b.body_word in
+      let number : word_at memory (w + 3) / 4 ≡ body.0 = omega arith in
+      of_reference frames w c true (value.tagged, value.cell) (block_map maps value.map body.0 told.0 told.1)
+      ∙ ap (λ n. shown.Block (record { 0 = n }) (position_at frames (mark_at memory (word_at memory (w + 7))))) number
+      ∙ ap (shown.Block body) (marks maker (word_at memory (w + 7)) b.context b.tagged)
+
+-- where there are no frames, no activation has a position
+no_frames : (b : Bool) → (if b then 0 else position_of [] 0) ≡ 0
+no_frames true = refl
+no_frames false = refl
+
+-- a value that no activation is beside, as an answer
+pub ended_show : EndedShow
+ended_show z r s memory stands has v w value =
+    let is = heap_over r.maps r.mem memory r.heap z.cells z.places s.things z.made stands.heap has in
+    told_shows r.maps memory r.heap z.cells z.places s.things z.made is [] [] (λ k context at tagged. no_frames (nat_eq (mark_at memory context) 0)) v w value
+
 module _ (z : Sense) (r : Raw) (s : State) (all : List Activation) (frames : List Frame) (memory : Store) (are : AreOf z r s all frames) (has : HasHeap memory r.mem) where
   pub is : IsHeap r.maps memory r.heap z.cells z.places s.things z.made
   is = heap_over r.maps r.mem memory r.heap z.cells z.places s.things z.made are.stands.heap has
@@ -117,35 +163,11 @@ module _ (z : Sense) (r : Raw) (s : State) (all : List Activation) (frames : Lis
       let m = got_if z.made k (let lt = slice_get_within z.places.contexts k context at in let len = is.means.contexts_all in omega arith) in
       made_shows k context m.0 at m.1 tagged
 
-  of_reference : (w : ℕ) (c : Cell) (b : Bool) → RefersTo z.cells w c → is_block_map r.maps (map_in c) ≡ b → value_shown r.maps memory frames w ≡ reference_shown b memory frames w
-  of_reference w c b there test =
-      let tagged = there.0 in
-      cond-false (nat_eq (w % 4) 0) (shown.Int (int_of w)) (reference_shown (is_block_map r.maps (map_at memory w)) memory frames w) (ne_eqb (w % 4) 0 (λ e. omega arith))
-      ∙ ap (λ q. reference_shown q memory frames w) (ap (is_block_map r.maps) (map_of_cell memory r.heap.top w z.cells c is.laid there) ∙ test)
-
   pub number_shows : (n w : ℕ) → slice_get z.places.objects n ≡ Some w → number_at memory w ≡ n
-  number_shows n w at =
-      let number = ((heap_sound r.maps memory r.heap z.cells z.places s.things z.made is).object n w at).numbered in
-      omega arith
+  number_shows n w at = numbered_shows r.maps memory r.heap z.cells z.places s.things z.made is n w at
 
   pub value_shows : (v : Value) (w : ℕ) → IsValue z.cells z.places v w → value_shown r.maps memory frames w ≡ as_shown all v
-  value_shows (values.Int i) w value =
-      cond-true (nat_eq (w % 4) 0) (shown.Int (int_of w)) (reference_shown (is_block_map r.maps (map_at memory w)) memory frames w) (eq-eqb (w % 4) 0 (ap (λ q. q % 4) value.1 ∙ integer_aligned i value.0))
-      ∙ ap shown.Int (ap int_of value.1 ∙ integer_back i value.0)
-  value_shows (values.Object n) w value =
-      let t = got_if s.things n (let lt = slice_get_within z.places.objects n w value in let len = is.means.objects_all in omega arith) in
-      let o = is.means.object n w t.0 value t.1 in
-      of_reference w o.cell false o.there (thing_map r.maps z.cells z.places n t.0 o.cell o.is (is.told (w - 1) o.cell o.there.1))
-      ∙ ap shown.Object (number_shows n w value)
-  value_shows (values.Block body maker) w value =
-      let b = read_block r.maps memory r.heap z.cells z.places s.things z.made is w maker body value in
-      let c : Cell = Block value.map body.0 value.context value.receiver in
-      let told = is.told (w - 1) c value.cell in
-      let body_word = b.body_word in
-      let number : word_at memory (w + 3) / 4 ≡ body.0 = omega arith in
-      of_reference w c true (value.tagged, value.cell) (block_map r.maps value.map body.0 told.0 told.1)
-      ∙ ap (λ n. shown.Block (record { 0 = n }) (position_at frames (mark_at memory (word_at memory (w + 7))))) number
-      ∙ ap (shown.Block body) (context_shows maker (word_at memory (w + 7)) b.context b.tagged)
+  value_shows v w value = told_shows r.maps memory r.heap z.cells z.places s.things z.made is all frames context_shows v w value
 
   pub values_show : (vs : List Value) (ws : List ℕ) → AreValues z.cells z.places vs ws → map (value_shown r.maps memory frames) ws ≡ map (as_shown all) vs
   values_show [] [] v = refl

@@ -1,5 +1,5 @@
 -- Where frames in words stand for activations, they show them as the source does.
-use Rattle.std.specs.Prelude.{◌≡◌, ℕ, ◌+◌, ◌<◌, ◌≤◌, List, Some, slice_get}
+use Rattle.std.specs.Prelude.{◌≡◌, ℕ, ◌+◌, ◌<◌, ◌≤◌, List, [], Some, slice_get}
 use Rattle.self_terms.specs.declared.values.Value.{Value}
 use Rattle.sparc_store.specs.Words.{Words, word_at}
 use Rattle.source_model.specs.Formed.{IsWellFormed}
@@ -27,6 +27,10 @@ pub record AreOf (z : Sense) (r : Raw) (s : State) (all : List Activation) (fram
 abbrev pub ValuesShow : Type 0
 ValuesShow = (z : Sense) (r : Raw) (s : State) (all : List Activation) (frames : List Frame) (memory : Words) → AreOf z r s all frames → HasHeap memory r.mem
     → (v : Value) (w : ℕ) → IsValue z.cells z.places v w → value_shown r.maps memory frames w ≡ as_shown all v
+
+-- that of a value that no activation is beside, as the answer of an activity, is shown so with no frames
+abbrev pub EndedShow : Type 0
+EndedShow = (z : Sense) (r : Raw) (s : State) (memory : Words) → Stands z r s → HasHeap memory r.mem → (v : Value) (w : ℕ) → IsValue z.cells z.places v w → value_shown r.maps memory [] w ≡ as_shown [] v
 
 -- and the frames are shown as the activations are
 abbrev pub ActivationsShow : Type 0

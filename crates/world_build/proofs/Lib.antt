@@ -39,3 +39,4 @@ pub mod Given
 pub mod Coded
 pub mod Ordered
 pub mod Slotted
+pub mod BodyParts

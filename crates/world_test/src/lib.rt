@@ -18,4 +18,5 @@ mod worlds;
 
 pub use further::{session_names, starts_fixed};
 pub use laws::can_begin_tells;
+pub use names::{arity, number_of};
 pub use worlds::{can_begin, can_begin_with};

@@ -30,8 +30,8 @@ fn colons(text: &[u8]) -> usize
     text.iter().filter(|c| **c == b':').count()
 }
 
-// How many arguments a message takes, by its name.
-fn arity(text: &[u8]) -> usize
+/// How many arguments a message takes, by its name.
+pub fn arity(text: &[u8]) -> usize
     ensures { result ≡ arity text.now }
 {
     let Some(first) = text.first() else {

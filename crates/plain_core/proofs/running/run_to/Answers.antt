@@ -27,3 +27,9 @@ loop-at-preserved c =
 
 pub returns-clause-runs : goal.returns-clause-runs
 returns-clause-runs c = λ from g. none_at (host c.loop-at.hosting) from c.args.target c.loop-at.at c.in_default.is (c.loop-at.invariant.at from g)
+
+pub returns-clause-roomy : goal.returns-clause-roomy
+returns-clause-roomy c =
+    let same = c.loop-at.invariant.same in
+    let room = c.loop-at.invariant.room in
+    omega (arith, same, room)

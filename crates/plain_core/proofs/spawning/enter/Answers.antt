@@ -1,4 +1,5 @@
 use Rattle.plain_host.specs.Hosted.{host}
+use Rattle.plain_core.specs.Leading.{Stays}
 use Rattle.plain_core.proofs.Births.{is_found, unbuilt, blocks_by}
 use Rattle.plain_core.proofs.spawning.enter.Goals as goal
 
@@ -12,3 +13,6 @@ pub returns-then-not-is_blockless-clause-born : goal.returns-then-not-is_blockle
 returns-then-not-is_blockless-clause-born c =
     unbuilt (host c.args.hosting.now) c.args.name.0 c.args.lobby c.args.walk.now c.requires.lobby c.requires.room c.requires.few c.args.holder c.args.body c.requires.found
     (blocks_by c.is_blockless.result c.body.result.now (host c.args.hosting.now) c.args.body.0 c.if-not-is_blockless.true c.is_blockless.ensures c.body.ensures)
+
+pub returns-then-not-is_blockless-clause-led : goal.returns-then-not-is_blockless-clause-led
+returns-then-not-is_blockless-clause-led c = Stays

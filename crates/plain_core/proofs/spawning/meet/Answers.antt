@@ -5,6 +5,7 @@ use Rattle.self_terms.specs.declared.errors.ErrorName.TheVariants as errors
 use Rattle.object_maps.specs.declared.maps.SlotKind.TheVariants.{Constant, Parent, Field, Assign}
 use Rattle.slot_lookup.specs.declared.sends.Found.TheVariants.{NotUnderstood, One, Ambiguous}
 use Rattle.source_model.specs.Texts.{error_text}
+use Rattle.plain_core.specs.Leading.{Stays}
 use Rattle.plain_core.proofs.Births.{unmet}
 use Rattle.plain_core.proofs.spawning.meet.Goals as goal
 
@@ -25,3 +26,21 @@ returns-in-Field-clause-born c = λ q text r named none. unmet (host c.args.host
 
 pub returns-in-Assign-clause-born : goal.returns-in-Assign-clause-born
 returns-in-Assign-clause-born c = λ q text r named none. unmet (host c.args.hosting.now) c.args.name.0 c.args.lobby c.args.walk.now c.requires.lobby c.requires.room c.requires.few (One c.in-One.holder (Assign c.in-Assign.field-0)) (codes "not a method") (c.requires.found ∙ c.in-One.is ∙ ap (One c.in-One.holder) c.in-Assign.is) refl q text r named
+
+pub returns-in-NotUnderstood-clause-led : goal.returns-in-NotUnderstood-clause-led
+returns-in-NotUnderstood-clause-led c = Stays
+
+pub returns-in-Ambiguous-clause-led : goal.returns-in-Ambiguous-clause-led
+returns-in-Ambiguous-clause-led c = Stays
+
+pub returns-in-Constant-clause-led : goal.returns-in-Constant-clause-led
+returns-in-Constant-clause-led c = Stays
+
+pub returns-in-Parent-clause-led : goal.returns-in-Parent-clause-led
+returns-in-Parent-clause-led c = Stays
+
+pub returns-in-Field-clause-led : goal.returns-in-Field-clause-led
+returns-in-Field-clause-led c = Stays
+
+pub returns-in-Assign-clause-led : goal.returns-in-Assign-clause-led
+returns-in-Assign-clause-led c = Stays

@@ -1,4 +1,5 @@
 use Rattle.plain_turns.proofs.Ending.{goals_end, answers_end, primitives_end, returns_end}
+use Rattle.plain_turns.proofs.Failing.{sums_end}
 use Rattle.plain_turns.proofs.laws.runs_end.Goals as goal
 
 pub returns-clause-goal : goal.returns-clause-goal
@@ -12,3 +13,6 @@ returns-clause-primitive c = primitives_end
 
 pub returns-clause-home : goal.returns-clause-home
 returns-clause-home c = returns_end
+
+pub returns-clause-sum : goal.returns-clause-sum
+returns-clause-sum c = sums_end

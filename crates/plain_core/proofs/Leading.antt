@@ -1,0 +1,74 @@
+-- How machine and host come about between commands.
+use Rattle.std.proofs.Common.{◌≡◌, ℕ, ◌-◌, List, [], Result, Ok, Err, OnOk, ◌∙◌, ap, sym, subst}
+use Rattle.std.specs.Prelude.{true, Some, length, slice_get}
+use Rattle.self_terms.specs.declared.values.BodyId.{BodyId}
+use Rattle.self_terms.specs.declared.values.Value.TheVariants as values
+use Rattle.object_maps.specs.declared.maps.SlotKind.TheVariants.{Method as MethodKind}
+use Rattle.slot_lookup.specs.Lookup.{found_from}
+use Rattle.slot_lookup.specs.declared.sends.Found.TheVariants.{One}
+use Rattle.sparc_store.specs.Words.{Words}
+use Rattle.sparc_machine.specs.State.{IsWhole}
+use Rattle.source_model.specs.Soundness.{body_in}
+use Rattle.source_model.specs.State.{State}
+use Rattle.plain_words.specs.Going.{At}
+use Rattle.plain_words.specs.Putting.{Apart}
+use Rattle.plain_words.specs.Units.{unit_code}
+use Rattle.plain_runs.specs.Host.{Host}
+use Rattle.plain_runs.specs.Services.{next_unit, with_unit, begins}
+use Rattle.plain_lookups.proofs.Looking.{memories_agree}
+use Rattle.plain_units.specs.Putting.{IsPut}
+use Rattle.plain_units.proofs.Passing.{above}
+use Rattle.plain_units.proofs.Points.{heap_same}
+use Rattle.plain_stretches.specs.Gate.{is_blockless}
+use Rattle.plain_turns.specs.Resting.{Rests}
+use Rattle.plain_births.specs.Meeting.{lobby_finds}
+use Rattle.plain_births.proofs.Units.{units_rest}
+use Rattle.plain_core.specs.Leading.{Leads, Stays, Runs, Puts, Begins}
+use Rattle.plain_core.specs.Running.{HasRunOn}
+use Rattle.plain_core.specs.Spawning.{IsReady}
+use Rattle.plain_core.proofs.Births.{IsFound, is_put}
+
+-- one after the other
+pub leads_on : (room : ℕ) (a b c : Host) → Leads room a b → Leads room b c → Leads room a c
+leads_on room a b c first Stays = first
+leads_on room a b c first (Runs g to i v before reached) = Runs g to i v (leads_on room a b g first before) reached
+leads_on room a b c first (Puts g k memory before put) = Puts g k memory (leads_on room a b g first before) put
+leads_on room a b c first (Begins g lobby holder at name k before is found unit some) = Begins g lobby holder at name k (leads_on room a b g first before) is found unit some
+
+-- A run.
+pub run_leads : {A E : Type 0} (r : Result A E) (room n : ℕ) (h to : Host) → OnOk r (HasRunOn room n h to) → OnOk r (Leads room h to)
+run_leads (Ok a) room n h to ran = Runs h to ran.reached.0 ran.reached.1 Stays ran.reached.2
+run_leads (Err e) room n h to ran = tt
+
+-- The lobby's lookup reads no words that a unit changes.
+module _ (h : Host) (s : State) (c : ℕ) (memory : Words) (r : Rests h s) (put : IsPut h c memory) (built : is_blockless (body_in h.bodies c) ≡ true) where
+  found_same : (lobby name room : ℕ) → slice_get h.references.objects 0 ≡ Some lobby → lobby_finds room (with_unit c memory h) lobby name ≡ lobby_finds room h lobby name
+  found_same lobby name room is =
+      let x = (units_rest h s c memory r put built).rests in
+      let heap = heap_same h.machine.memory memory r.sound.hosted.within put.within (above h c memory put) in
+      (memories_agree x.sense (with_unit c memory h) s x.sound.stands (values.Object 0) lobby (x.sound.stands.objects 0 lobby is)).from room name
+      ∙ ap (λ (q : List ℕ). found_from h.maps (record { code = []; heap = q; control = []; stacks = [] }) room lobby name) heap
+      ∙ sym ((memories_agree r.sense h s r.sound.stands (values.Object 0) lobby (r.sound.stands.objects 0 lobby is)).from room name)
+
+-- The unit was put.
+module _ (h mid : Host) (s : State) (c : BodyId) (r : Rests h s) (m : IsFound h c) (none : slice_get h.entries (c.0 - 1) ≡ Some 0) (built : is_blockless (body_in h.bodies c.0) ≡ true) where
+  module _ (is : mid ≡ with_unit c.0 mid.machine.memory h) (code : At mid.machine.memory (next_unit h) (unit_code h.references (body_in h.bodies c.0))) (apart : Apart h.machine.memory mid.machine.memory (next_unit h) (length (unit_code h.references (body_in h.bodies c.0)))) (whole : IsWhole mid.machine) where
+    put : IsPut h c.0 mid.machine.memory
+    put = is_put h mid s c r m none built code apart whole
+
+    pub put_leads : (room : ℕ) → Leads room h mid
+    put_leads room =
+        let P : Host → Type 0 = λ y. Leads room h y in
+        subst P (sym is) (Puts h c.0 mid.machine.memory Stays put)
+
+    pub put_finds : (room lobby name holder : ℕ) → slice_get h.references.objects 0 ≡ Some lobby → lobby_finds room h lobby name ≡ One holder (MethodKind c) → lobby_finds room mid lobby name ≡ One holder (MethodKind c)
+    put_finds room lobby name holder known found =
+        ap (λ (y : Host). lobby_finds room y lobby name) is ∙ found_same h s c.0 mid.machine.memory r put built lobby name room known ∙ found
+
+-- The activity begins.
+pub begin_leads : (h mid to : Host) (lobby room name holder at : ℕ) (c : BodyId) → slice_get h.references.objects 0 ≡ Some lobby → IsReady h mid c.0 at → Leads room h mid → lobby_finds room mid lobby name ≡ One holder (MethodKind c)
+    → to ≡ begins c.0 at lobby holder mid → Leads room h to
+begin_leads h mid to lobby room name holder at c is ready led finds begun =
+    let P : Host → Type 0 = λ y. Leads room h y in
+    let known : slice_get mid.references.objects 0 ≡ Some lobby = ap (λ y. slice_get y.objects 0) ready.references ∙ is in
+    subst P (sym begun) (Begins mid lobby holder at name c led known finds ready.unit ready.some)

@@ -1,0 +1,20 @@
+-- How machine and host come about between commands.
+use Rattle.std.specs.Prelude.{◌≡◌, ◌≢◌, ℕ, ◌-◌, Some, slice_get}
+use Rattle.self_terms.specs.declared.values.BodyId.{BodyId}
+use Rattle.object_maps.specs.declared.maps.SlotKind.TheVariants.{Method}
+use Rattle.slot_lookup.specs.declared.sends.Found.TheVariants.{One}
+use Rattle.sparc_store.specs.Words.{Words}
+use Rattle.plain_runs.specs.Host.{Host}
+use Rattle.plain_runs.specs.Services.{with_unit, begins}
+use Rattle.plain_units.specs.Putting.{IsPut}
+use Rattle.plain_turns.specs.Events.{Reaches}
+use Rattle.plain_births.specs.Meeting.{lobby_finds}
+
+-- By runs, which are instructions and services alone; by units that are put; and by activities that begin, each of a method that a lookup from the
+-- lobby finds.
+pub data Leads (room : ℕ) (h : Host) : Host → Type 0 where
+  Stays : Leads room h h
+  Runs : (g to : Host) (instructions services : ℕ) → Leads room h g → Reaches room g instructions services to → Leads room h to
+  Puts : (g : Host) (c : ℕ) (memory : Words) → Leads room h g → IsPut g c memory → Leads room h (with_unit c memory g)
+  Begins : (g : Host) (lobby holder at name : ℕ) (c : BodyId) → Leads room h g → slice_get g.references.objects 0 ≡ Some lobby → lobby_finds room g lobby name ≡ One holder (Method c) → slice_get g.entries (c.0 - 1) ≡ Some at → at ≢ 0
+      → Leads room h (begins c.0 at lobby holder g)

@@ -1,0 +1,2 @@
+-- The current activity between commands.
+pub mod Standing

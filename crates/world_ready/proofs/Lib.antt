@@ -1,0 +1,3 @@
+pub mod Names
+pub mod Counted
+pub mod Rooms

@@ -1,0 +1,2 @@
+-- Worlds over which a session may begin.
+pub mod Ready
