@@ -12,4 +12,8 @@ mod limits;
 #[cfg(test)]
 mod refusals;
 #[cfg(test)]
+mod scripts;
+#[cfg(test)]
+mod sends;
+#[cfg(test)]
 mod tests;

@@ -1,10 +1,11 @@
-pub mod Limits
 pub mod ClosedSigns
 pub mod OneWorld
 pub mod Built
-pub mod Mains
+pub mod Opens
+pub mod Scripts
 pub mod Cases
+pub mod Decimals
 pub mod OneJob
 pub mod OneAnswer
 pub mod Taking
-pub mod Runnable
+pub mod Folding

@@ -2,8 +2,9 @@
 use Rattle.std.proofs.Common.{◌≡◌, ◌≢◌, ◌⊎◌, ℕ, zero, suc, ◌^◌, ◌<◌, ◌≤◌, ◌∙◌, List, [], ◌∷◌, length, Bool, true, false, nat_eq, bytes_eq, codes, decimal, inl, inr, refl, sym, ap, subst, arith, eqb-true, eq-eqb, true≢false}
 use Rattle.std.proofs.lemmas.Slice.Eq.{bytes_eq-Decides}
 use Rattle.std.proofs.lemmas.Fmt.{decimal_injective}
-use Rattle.first_text.specs.Meanings.{OneOrNone}
+use Rattle.self_debugger.specs.Meanings.{OneOrNone}
 use Rattle.self_debugger.specs.Words.{Job, RunWorld, CheckWorld, RunDrill, IsFileName, Asks}
+use Rattle.self_debugger.proofs.Decimals.{one_number}
 
 -- the first byte of the first word
 abbrev first_byte : List (List ℕ) → ℕ
@@ -106,8 +107,8 @@ others words h (RunWorld n) a = h (ap length (a.0))
 others words h (CheckWorld n) a = h (ap length (a.0))
 others words h (RunDrill n) a = h (ap length (a.0))
 
-pub decide : ((t : List ℕ) (most : ℕ) → most < 2 ^ 64 → OneOrNone (λ n. (t ≡ decimal n) × (n ≤ most))) → (words : List (List ℕ)) → ((job : Job) × Asks words job) ⊎ ((job : Job) → ¬ Asks words job)
-decide number [] = inr (others [] (λ e. omega arith))
-decide number (first ∷ []) = inr (others (first ∷ []) (λ e. omega arith))
-decide number (first ∷ second ∷ []) = decide_two first second (number second 4000 (omega arith))
-decide number (first ∷ second ∷ third ∷ more) = inr (others (first ∷ second ∷ third ∷ more) (λ e. omega arith))
+pub decide : (words : List (List ℕ)) → ((job : Job) × Asks words job) ⊎ ((job : Job) → ¬ Asks words job)
+decide [] = inr (others [] (λ e. omega arith))
+decide (first ∷ []) = inr (others (first ∷ []) (λ e. omega arith))
+decide (first ∷ second ∷ []) = decide_two first second (one_number second 4000 (omega arith))
+decide (first ∷ second ∷ third ∷ more) = inr (others (first ∷ second ∷ third ∷ more) (λ e. omega arith))

@@ -1,13 +1,18 @@
 -- What a whole call of the program is to write, to answer and to leave.
-use Rattle.std.specs.Prelude.{◌≡◌, ◌⊎◌, ℕ, ◌≤◌, List, Option, Some, Ok}
+use Rattle.std.specs.Prelude.{◌≡◌, ◌⊎◌, ℕ, ◌≤◌, true, List, [], Option, Some, Ok}
+use Rattle.std.specs.List.{list_all}
 use Rattle.io_ports.specs.Causes.{Takes, TakesFront}
-use Rattle.run_core.specs.FirstPath.{Body}
-use Rattle.first_text.specs.FirstScript.{IsFirstScript}
-use Rattle.run_core.specs.declared.run_end.RunEnd.{RunEnd}
-use Rattle.run_core.specs.Ran.{Ran}
+use Rattle.session_text.specs.declared.commands.Command.{Command}
+use Rattle.session_text.specs.Scripts.{script}
+use Rattle.source_model.specs.State.{silent}
+use Rattle.plain_session.specs.Commands.{is_built, all_obeyed}
+use Rattle.plain_session.specs.Sessions.{Session, host_of, Shows}
+use Rattle.plain_core.specs.Leading.{Leads}
+use Rattle.plain_runs.specs.Host.{Host}
+use Rattle.plain_turns.specs.Resting.{Rests}
 use Rattle.world_build.specs.Worlds.{World}
 use Rattle.self_debugger.specs.Words.{RunWorld, CheckWorld, Asks}
-use Rattle.self_debugger.specs.WorldFiles.{WorldRead, main_of}
+use Rattle.self_debugger.specs.WorldFiles.{WorldRead, begins}
 use Rattle.self_debugger.specs.Answer.{Answer}
 
 -- With status 0 to 3 the sink took the whole text of the answer, and the status is that of the answer;
@@ -28,19 +33,9 @@ NamesWorld words name = Asks words (RunWorld name) ⊎ Asks words (CheckWorld na
 abbrev pub TellsWorld : List (List ℕ) → (List ℕ → Option (List ℕ)) → List ℕ → Type 0
 TellsWorld words bytes_of bytes = (name : List ℕ) → NamesWorld words name → bytes_of name ≡ Some bytes
 
--- The bytes are a world, and its lobby's method `main` has this body.
-pub record HasMain (bytes : List ℕ) (main : Body) : Type 0 where
-  pub world : World
-  pub accepted : WorldRead bytes (Ok world)
-  pub found : main_of world ≡ Some main
-
--- The bytes are a world that a script can be run over.
+-- The bytes are a world, which a script can be run over.
 abbrev pub IsAccepted : List ℕ → Type 0
-IsAccepted bytes = (main : Body) × HasMain bytes main
-
--- It is the body of the method `main` of an accepted world.
-abbrev pub IsMain : Body → Type 0
-IsMain main = (bytes : List ℕ) × HasMain bytes main
+IsAccepted bytes = (w : World) × WorldRead bytes (Ok w)
 
 -- A read failed: of the world file that the words name, or, for a run, of the script, which is read after an accepted world alone.
 abbrev pub HasReadFault : List (List ℕ) → (List ℕ → Option (List ℕ)) → (List ℕ → Type 0) → Type 0 → Type 0
@@ -48,15 +43,24 @@ HasReadFault words bytes_of file_failed script_failed =
     ((name : List ℕ) × NamesWorld words name × file_failed name)
     ⊎ ((name : List ℕ) × Asks words (RunWorld name) × script_failed × ((bytes : List ℕ) → bytes_of name ≡ Some bytes → IsAccepted bytes))
 
--- The session is what a run of the N steps that the script asks for leaves, over a body: its machine was reached by
--- instructions and services alone from a machine with one activity, and it stands for the state after those steps.
-pub record IsRun (main : Body) (script : List ℕ) (session : RunEnd) : Type 0 where
-  pub n : ℕ
-  pub asked : IsFirstScript script n
-  pub ran : Ran main n session
+-- Machine and host were reached from where a session over the world begins.
+pub record IsLedFrom (w : World) (session : Session) : Type 0 where
+  pub start : Host
+  pub begun : Rests start (begins w)
+  pub idle : start.statuses ≡ []
+  pub leads : Leads session.room start (host_of session)
 
--- The session is what a run of the script over the world leaves.
-pub record IsSession (bytes script : List ℕ) (session : RunEnd) : Type 0 where
-  pub main : Body
-  pub accepted : HasMain bytes main
-  pub run : IsRun main script session
+-- The session is what a run of the script over the world leaves: it shows the state that the script's commands come to; its machine and host were
+-- reached, by instructions and services alone, from those that stand for the state with which a session over the world begins, without an activity.
+pub record IsRun (w : World) (text : List ℕ) (session : Session) : Type 0 where
+  pub commands : List Command
+  pub asked : script text ≡ Ok commands
+  pub built : list_all is_built commands ≡ true
+  pub shows : Shows session (all_obeyed commands (silent (begins w))).state
+  pub led : IsLedFrom w session
+
+-- So it is over the world of these bytes.
+pub record IsSession (bytes text : List ℕ) (session : Session) : Type 0 where
+  pub world : World
+  pub accepted : WorldRead bytes (Ok world)
+  pub run : IsRun world text session

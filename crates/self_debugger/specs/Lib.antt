@@ -1,3 +1,5 @@
+pub mod Numbers
+pub mod Meanings
 pub mod Words
 pub mod Tasks
 pub mod WorldLines

@@ -1,27 +1,43 @@
 -- What the calls inside the program are to do, over a world that was read. Used by contracts of private functions alone.
-use Rattle.std.specs.Prelude.{◌≡◌, ℕ, Ok, List, Option, None, Some, codes}
-use Rattle.run_core.specs.FirstPath.{Body}
-use Rattle.run_core.specs.declared.run_end.RunEnd.{RunEnd}
+use Rattle.std.specs.Prelude.{◌≡◌, ◌⊎◌, ℕ, ◌++◌, Ok, List, Option}
+use Rattle.io_ports.specs.Causes.{Takes, TakesFront}
+use Rattle.session_text.specs.declared.commands.Command.{Command}
+use Rattle.source_model.specs.State.{Reached, silent}
+use Rattle.plain_session.specs.Commands.{obeyed, all_obeyed}
+use Rattle.plain_session.specs.Sessions.{Session, Shows, Obeys, IsLed}
 use Rattle.world_build.specs.Worlds.{World}
-use Rattle.self_debugger.specs.WorldFiles.{WorldRead, main_of}
-use Rattle.self_debugger.specs.Answer.{Answer, ScriptAnswer}
-use Rattle.self_debugger.specs.Headline.{IsRun}
+use Rattle.self_debugger.specs.WorldFiles.{WorldRead, begins}
+use Rattle.self_debugger.specs.Headline.{IsLedFrom}
 
 -- some bytes are this world
 abbrev pub IsWorld : World → Type 0
 IsWorld w = (bytes : List ℕ) × WorldRead bytes (Ok w)
 
--- its lobby has a method `main`
-abbrev pub HasBody : World → Type 0
-HasBody w = (main : Body) × (main_of w ≡ Some main)
+-- A command was obeyed, and its line was written.
+pub record Did (x y : Session) (c : Command) (old now : Option (List ℕ)) : Type 0 where
+  pub text : List ℕ
+  pub obeys : Obeys x y (obeyed c) text
+  pub took : Takes old now text
+  pub led : IsLed x y
 
--- the answer over a world
-pub data MainAnswer (w : World) (script : Option (List ℕ)) : Answer → Type 0 where
-  none : main_of w ≡ None → MainAnswer w script (codes "not built\n", 2)
-  some : (main : Body) (t : List ℕ) (a : Answer) → main_of w ≡ Some main → script ≡ Some t → ScriptAnswer main t a → MainAnswer w script a
+-- Nothing was written of a command; or it was obeyed, and a front of its line was written.
+pub record WroteFront (x y : Session) (c : Command) (old now : Option (List ℕ)) : Type 0 where
+  pub text : List ℕ
+  pub obeys : Obeys x y (obeyed c) text
+  pub front : TakesFront old now text
 
--- the session is what a run of the script over the world leaves
-pub record IsRunOf (w : World) (script : List ℕ) (session : RunEnd) : Type 0 where
-  pub main : Body
-  pub found : main_of w ≡ Some main
-  pub run : IsRun main script session
+abbrev pub Broke : Session → Session → Command → Option (List ℕ) → Option (List ℕ) → Type 0
+Broke x y c old now = (now ≡ old) ⊎ WroteFront x y c old now
+
+-- Amid the commands of a script over a world, where these are left.
+pub record IsAmid (w : World) (all left : List Command) (x : Session) (old now : Option (List ℕ)) : Type 0 where
+  pub reached : Reached
+  pub shows : Shows x reached.state
+  pub took : Takes old now reached.out
+  pub left_is : all_obeyed left reached ≡ all_obeyed all (silent (begins w))
+  pub led : IsLedFrom w x
+
+-- All were obeyed.
+pub record IsDone (w : World) (all : List Command) (x : Session) : Type 0 where
+  pub shows : Shows x (all_obeyed all (silent (begins w))).state
+  pub led : IsLedFrom w x

@@ -1,7 +1,6 @@
 -- What the bytes of a world file mean: a world, or the line that refuses them.
-use Rattle.std.specs.Prelude.{◌≡◌, ℕ, zero, suc, ◌<◌, ◌≤◌, Option, None, Some, Result, Ok, Err, List, length, slice_get, codes}
-use Rattle.self_terms.specs.declared.values.BodyId.{BodyId}
-use Rattle.self_terms.specs.declared.bodies.Body as built_body
+use Rattle.std.specs.Prelude.{◌≡◌, ℕ, ◌<◌, ◌≤◌, Result, Ok, Err, List, length, codes}
+use Rattle.self_terms.specs.Names.{with_text}
 use Rattle.self_tokens.specs.Tokens.{tokens}
 use Rattle.self_grammar.specs.declared.signs.ReadRefusal.{ReadRefusal}
 use Rattle.self_grammar.specs.Grammar as grammar
@@ -10,10 +9,11 @@ use Rattle.self_grammar.specs.Refusal.{IsText, IsRefused}
 use Rattle.self_reader.specs.declared.texts.TheConstants.{LIMITS}
 use Rattle.self_signs.specs.Signs.{signs, names_after}
 use Rattle.self_reader.specs.Texts.{known}
-use Rattle.run_core.specs.FirstPath.{Body}
 use Rattle.world_build.specs.declared.refusals.BuildRefusal.{BuildRefusal}
-use Rattle.source_model.specs.Names.{number_of}
-use Rattle.world_build.specs.Worlds.{World, built, lobby_method}
+use Rattle.source_model.specs.State.{State}
+use Rattle.world_build.specs.Worlds.{World, built}
+use Rattle.world_state.specs.Begun.{begun}
+use Rattle.world_test.specs.Further.{failure_text}
 use Rattle.self_debugger.specs.WorldLines.{read_line, build_line}
 
 -- The bytes spell this text, within the limits and with nothing wrong.
@@ -31,23 +31,6 @@ pub data WorldRead (bytes : List ℕ) : Result World (List ℕ) → Type 0 where
   unbuilt : (t : grammar.World) (b : BuildRefusal) → length bytes ≤ 1048576 → Spells bytes t → built_of bytes t ≡ Err b → WorldRead bytes (Err (build_line b))
   read : (t : grammar.World) (w : World) → length bytes ≤ 1048576 → Spells bytes t → built_of bytes t ≡ Ok w → WorldRead bytes (Ok w)
 
--- Bodies as the interpreter has them: by their nodes and places.
-abbrev pub run_body : built_body.Body → Body
-run_body b = record { nodes = b.nodes; places = b.places }
-
-abbrev pub run_body_in : Option built_body.Body → Option Body
-run_body_in None = None
-run_body_in (Some b) = Some (run_body b)
-
--- the body of a number, from 1
-abbrev pub body_of : List built_body.Body → ℕ → Option Body
-body_of bodies zero = None
-body_of bodies (suc k) = run_body_in (slice_get bodies k)
-
-abbrev pub body_in : List built_body.Body → Option BodyId → Option Body
-body_in bodies None = None
-body_in bodies (Some b) = body_of bodies b.0
-
--- the body of the lobby's own method slot `main`
-abbrev pub main_of : World → Option Body
-main_of w = body_in w.bodies (lobby_method w (number_of w.names (codes "main")))
+-- the state with which a session over a world begins: behind its names stands the one that a failed primitive sends to its handler
+abbrev pub begins : World → State
+begins w = begun w (with_text w.names failure_text) 0

@@ -12,9 +12,7 @@ pub fn one_answer()
         → Answers words bytes_of script a → Answers words bytes_of script b → a ≡ b }
     ensures some { (words : List (List ℕ)) (bytes_of : List ℕ → Option (List ℕ)) (w t : List ℕ)
         → TellsWorld words bytes_of w → (a : Answer) × Answers words bytes_of (Some t) a }
-{
-    first_text::one_meaning();
-}
+{}
 
 /// The bytes of each file mean one thing, and one alone: a world, or the line that refuses them.
 pub fn files_mean_one_thing()

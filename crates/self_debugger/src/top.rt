@@ -1,25 +1,29 @@
 // The call that does all that the program does.
-ghost use Rattle.std.specs.Prelude.{◌≡◌, ◌⊎◌, ◌≤◌, ◌↔◌, List, ℕ, [], ◌∷◌, length, Ok, Some, IsSome, IsNone, IfSome, IfOk, OnOk, OnErr, IsErrOf, map, string_bytes};
+ghost use Rattle.std.specs.Prelude.{◌≡◌, ◌⊎◌, ◌≤◌, ◌+◌, ◌^◌, ◌↔◌, List, ℕ, true, length, Ok, Some, IsSome, IsNone, IfSome, IfOk, OnOk, OnErr, IsErrOf, map, string_bytes};
+ghost use Rattle.std.specs.List.{list_all};
 ghost use Rattle.io_ports.specs.Causes.{Rose, Takes, TakesFront};
-ghost use Rattle.run_core.specs.FirstPath.{opened, SpawnMain, Run, spawned, transcript, run, run_line};
-ghost use Rattle.run_core.specs.Ran.{Ran};
+ghost use Rattle.session_text.specs.Scripts.{script};
+ghost use Rattle.session_text.specs.LineTexts.{refused_line};
+ghost use Rattle.plain_turns.specs.Asking.{count};
+ghost use Rattle.plain_session.specs.Commands.{is_built, transcript};
+ghost use Rattle.plain_session.specs.Sessions.{host_of, IsShown};
 ghost use Rattle.self_debugger.specs.declared.top.Stop.TheVariants.{OutOfMemory, Write};
 ghost use Rattle.self_debugger.specs.Words.{Asks, RunWorld};
 ghost use Rattle.self_debugger.specs.WorldLines.{ok_line};
-ghost use Rattle.self_debugger.specs.WorldFiles.{WorldRead, run_body};
+ghost use Rattle.self_debugger.specs.WorldFiles.{WorldRead, begins};
 ghost use Rattle.self_debugger.specs.Answer.{Answer, Answers, WorldAnswer, CheckAnswer, ScriptAnswer};
-ghost use Rattle.self_debugger.specs.Headline.{Outcome, AsksRun, NamesWorld, TellsWorld, IsAccepted, IsMain, HasReadFault, IsRun, IsSession};
-ghost use Rattle.self_debugger.specs.Parts.{MainAnswer, HasBody, IsWorld, IsRunOf};
+ghost use Rattle.self_debugger.specs.Headline.{Outcome, AsksRun, NamesWorld, TellsWorld, IsAccepted, HasReadFault, IsRun, IsSession};
+ghost use Rattle.self_debugger.specs.Parts.{IsWorld, Did, Broke, IsDone};
 
-use crate::lines::{activity_line, ok_line, run_line};
+use crate::lines::{ok_line, script_line};
 use crate::words::{Task, task_of};
-use crate::worlds::{main_of, world_of};
-use first_text::first_script;
+use crate::worlds::{session_over, world_of};
 use io_ports::{Failed, Files, ReadErr, Sink, Source, read_all, read_file, write_all};
-use run_core::{RunEnd, run_first};
-use self_terms::Body;
+use plain_session::{Session, all_built};
+use session_text::{Command, Line, ScriptErr, read_script};
 use std::alloc::{AllocError, Global};
 use world_build::World;
+use world_image::WorldImage;
 
 // The most bytes of a world file and of a script.
 const LIMIT: usize = 1048576;
@@ -28,14 +32,13 @@ const LIMIT: usize = 1048576;
 #[derive(Drop)]
 pub struct Ended {
     pub status: u8,
-    pub session: Option<RunEnd>,
+    pub session: Option<Session>,
 }
 
 /// All that the program does. Reads the words and the world file. For a check it writes how much the world holds. For a
 /// run it reads the script from the source to its end, runs the commands, and writes a line for each.
 ///
-/// Status 0: the world was checked, or the whole script was run. 1: the words aren't accepted. 2: the world is refused,
-/// or has no `main` to run. 3: the script is refused. 4: a read failed. 5: a write failed. 6: want of memory.
+/// Status 0: the world was checked, or the whole script was run. 1: the words aren't accepted. 2: the world is refused. 3: the script is refused. 4: a read failed. 5: a write failed. 6: want of memory.
 pub fn selfdb<F: Files, S: Source, K: Sink>(
     alloc: Global,
     words: &[String],
@@ -224,59 +227,33 @@ fn build_world<S: Source, K: Sink>(
     ensures shown { (t : List ℕ) → S.left script.old ≡ Some t → IfSome result.session (IsSession bytes.now t) }
 {
     match world_of(alloc, bytes) {
-        Ok(Ok(image)) => serve_main(alloc, image.world(), script, out),
+        Ok(Ok(image)) => serve_script(alloc, image, script, out),
         Ok(Err(line)) => tell(out, &line, 2),
         Err(_) => without_session(6),
     }
 }
 
-// Finds the method `main` of an accepted world, and goes on.
-fn serve_main<S: Source, K: Sink>(
-    alloc: Global,
-    world: &World,
-    script: &mut S,
-    out: &mut K,
-) -> Ended
-    requires accepted { IsWorld world.now }
-    requires few { length world.now.names ≤ 450000000 }
-    ensures outcome { (a : Answer) → MainAnswer world.now (S.left script.old) a → Outcome result.status a (K.taken out.old) (K.taken out.new) }
-    ensures range { result.status ≤ 6 }
-    ensures not_one { ¬ (result.status ≡ 1) }
-    ensures read { result.status ≡ 4 → Rose (S.faults script.old) (S.faults script.new) × HasBody world.now }
-    ensures write { result.status ≡ 5 → Rose (K.faults out.old) (K.faults out.new) }
-    ensures silent { result.status ≡ 4 → out.new ≡ out.old }
-    ensures unread { result.status ≡ 2 → script.new ≡ script.old }
-    ensures session { IsSome result.session ↔ (result.status ≡ 0) }
-    ensures ran { IfSome result.session (λ e. (t : List ℕ) × IsRunOf world.now t e) }
-    ensures shown { (t : List ℕ) → S.left script.old ≡ Some t → IfSome result.session (IsRunOf world.now t) }
-{
-    match main_of(world) {
-        Some(main) => serve_script(alloc, main, script, out),
-        None => tell(out, b"not built\n", 2),
-    }
-}
-
-// Reads the script of a world whose method `main` has this body, and goes on.
+// Reads the script of an accepted world, and goes on.
 fn serve_script<S: Source, K: Sink>(
     alloc: Global,
-    main: &Body,
+    image: WorldImage,
     script: &mut S,
     out: &mut K,
 ) -> Ended
-    requires { IsMain (run_body main.now) }
-    ensures outcome { (t : List ℕ) (a : Answer) → S.left script.old ≡ Some t → ScriptAnswer (run_body main.now) t a
-        → Outcome result.status a (K.taken out.old) (K.taken out.new) }
+    requires accepted { IsWorld image.world }
+    requires few { length image.world.names ≤ 450000000 }
+    ensures outcome { (t : List ℕ) (a : Answer) → S.left script.old ≡ Some t → ScriptAnswer image.world t a → Outcome result.status a (K.taken out.old) (K.taken out.new) }
     ensures range { result.status ≤ 6 }
     ensures later { ¬ (result.status ≡ 1) × ¬ (result.status ≡ 2) }
     ensures read { result.status ≡ 4 → Rose (S.faults script.old) (S.faults script.new) }
     ensures write { result.status ≡ 5 → Rose (K.faults out.old) (K.faults out.new) }
     ensures silent { result.status ≡ 4 → out.new ≡ out.old }
     ensures session { IsSome result.session ↔ (result.status ≡ 0) }
-    ensures ran { IfSome result.session (λ e. (t : List ℕ) × IsRun (run_body main.now) t e) }
-    ensures shown { (t : List ℕ) → S.left script.old ≡ Some t → IfSome result.session (IsRun (run_body main.now) t) }
+    ensures ran { IfSome result.session (λ e. (t : List ℕ) × IsRun image.world t e) }
+    ensures shown { (t : List ℕ) → S.left script.old ≡ Some t → IfSome result.session (IsRun image.world t) }
 {
     match read_all(alloc, script, LIMIT) {
-        Ok(text) => serve_text(alloc, main, &text, out),
+        Ok(text) => serve_text(alloc, image, &text, out),
         Err(ReadErr::TooLong) => tell(out, b"script refused TooLong\n", 3),
         Err(ReadErr::Fault) => without_session(4),
         Err(ReadErr::OutOfMemory) => without_session(6),
@@ -284,33 +261,75 @@ fn serve_script<S: Source, K: Sink>(
 }
 
 // Answers the script of these bytes.
-fn serve_text<K: Sink>(alloc: Global, main: &Body, text: &[u8], out: &mut K) -> Ended
-    requires body { IsMain (run_body main.now) }
+fn serve_text<K: Sink>(alloc: Global, image: WorldImage, text: &[u8], out: &mut K) -> Ended
+    requires accepted { IsWorld image.world }
+    requires few { length image.world.names ≤ 450000000 }
     requires short { length text.now ≤ 1048576 }
-    ensures outcome { (a : Answer) → ScriptAnswer (run_body main.now) text.now a → Outcome result.status a (K.taken out.old) (K.taken out.new) }
+    ensures outcome { (a : Answer) → ScriptAnswer image.world text.now a → Outcome result.status a (K.taken out.old) (K.taken out.new) }
     ensures range { result.status ≤ 6 }
     ensures later { ¬ (result.status ≡ 1) × ¬ (result.status ≡ 2) × ¬ (result.status ≡ 4) }
     ensures write { result.status ≡ 5 → Rose (K.faults out.old) (K.faults out.new) }
     ensures session { IsSome result.session ↔ (result.status ≡ 0) }
-    ensures shown { IfSome result.session (IsRun (run_body main.now) text.now) }
+    ensures shown { IfSome result.session (IsRun image.world text.now) }
 {
-    match first_script(text) {
-        None => tell(out, b"not built\n", 3),
-        Some(n) => serve_run(alloc, main, n, out),
+    match read_script(alloc, text) {
+        Ok(script) => serve_commands(alloc, image, text, script.as_slice(), out),
+        Err(ScriptErr::BadCommand(number)) => tell_bad_line(alloc, number, out),
+        Err(ScriptErr::OutOfMemory) => without_session(6),
     }
 }
 
-// Runs the two commands of an accepted script.
-fn serve_run<K: Sink>(alloc: Global, main: &Body, n: u64, out: &mut K) -> Ended
-    requires body { IsMain (run_body main.now) }
-    requires few { n ≤ 1000000000 }
-    ensures outcome { Outcome result.status (transcript (run_body main.now) (SpawnMain ∷ Run n ∷ []) opened, 0) (K.taken out.old) (K.taken out.new) }
+// Writes which line of a script is no command.
+fn tell_bad_line<K: Sink>(alloc: Global, number: u32, out: &mut K) -> Ended
+    ensures outcome { Outcome result.status (refused_line number, 3) (K.taken out.old) (K.taken out.new) }
+    ensures which { (result.status ≡ 3) ⊎ (result.status ≡ 5) ⊎ (result.status ≡ 6) }
+    ensures write { result.status ≡ 5 → Rose (K.faults out.old) (K.faults out.new) }
+    ensures session { IsNone result.session }
+{
+    match script_line(alloc, number) {
+        Ok(line) => tell(out, line.bytes(), 3),
+        Err(_) => without_session(6),
+    }
+}
+
+// Answers the commands of the script of these bytes.
+fn serve_commands<K: Sink>(
+    alloc: Global,
+    image: WorldImage,
+    _text: &[u8],
+    commands: &[Command],
+    out: &mut K,
+) -> Ended
+    requires accepted { IsWorld image.world }
+    requires few { length image.world.names ≤ 450000000 }
+    requires short { length _text.now ≤ 1048576 }
+    requires read { script _text.now ≡ Ok commands.now }
+    ensures outcome { (a : Answer) → ScriptAnswer image.world _text.now a → Outcome result.status a (K.taken out.old) (K.taken out.new) }
+    ensures range { result.status ≤ 6 }
+    ensures later { ¬ (result.status ≡ 1) × ¬ (result.status ≡ 2) × ¬ (result.status ≡ 4) }
+    ensures write { result.status ≡ 5 → Rose (K.faults out.old) (K.faults out.new) }
+    ensures session { IsSome result.session ↔ (result.status ≡ 0) }
+    ensures shown { IfSome result.session (IsRun image.world _text.now) }
+{
+    if !all_built(commands) {
+        return tell(out, b"not built\n", 3);
+    }
+    serve_run(alloc, image, commands, out)
+}
+
+// Runs the commands.
+fn serve_run<K: Sink>(alloc: Global, image: WorldImage, commands: &[Command], out: &mut K) -> Ended
+    requires accepted { IsWorld image.world }
+    requires few { length image.world.names ≤ 450000000 }
+    requires short { length commands.now ≤ 1048577 }
+    requires built { list_all is_built commands.now ≡ true }
+    ensures outcome { Outcome result.status (transcript commands.now (begins image.world), 0) (K.taken out.old) (K.taken out.new) }
     ensures which { (result.status ≡ 0) ⊎ (result.status ≡ 5) ⊎ (result.status ≡ 6) }
     ensures write { result.status ≡ 5 → Rose (K.faults out.old) (K.faults out.new) }
     ensures session { IsSome result.session ↔ (result.status ≡ 0) }
-    ensures shown { IfSome result.session (λ e. Ran (run_body main.now) n e) }
+    ensures shown { IfSome result.session (IsDone image.world commands.now) }
 {
-    match commands(alloc, main, n, out) {
+    match run_commands(alloc, image, commands, out) {
         Ok(session) => Ended {
             status: 0,
             session: Some(session),
@@ -342,30 +361,49 @@ impl From<Failed> for Stop {
     }
 }
 
-// What a run of the body's first activity leaves, and the line of the run.
-fn run_main(alloc: Global, main: &Body, n: u64) -> Result<(RunEnd, Vec<u8>), AllocError>
-    requires body { IsMain (run_body main.now) }
-    requires few { n ≤ 1000000000 }
-    ensures ran { IfOk result (λ r. Ran (run_body main.now) n r.0) }
-    ensures line { IfOk result (λ r. r.1.items ≡ run_line (run n (spawned (run_body main.now) opened))) }
+// Obeys a command, and writes its line in one call.
+fn obey<K: Sink>(
+    session: &mut Session,
+    alloc: Global,
+    command: &Command,
+    line: &mut Line,
+    out: &mut K,
+) -> Result<(), Stop>
+    requires shown { IsShown session.old }
+    requires counted { count (host_of session.old) ≤ 2 ^ 60 }
+    requires built { is_built command.now ≡ true }
+    ensures did { OnOk result (Did session.old session.new command.now (K.taken out.old) (K.taken out.new)) }
+    ensures broke { OnErr result (Broke session.old session.new command.now (K.taken out.old) (K.taken out.new)) }
+    ensures counted { OnOk result (count (host_of session.new) ≤ count (host_of session.old) + 1000000000) }
+    ensures later { K.faults out.old ≤ K.faults out.new }
+    ensures write { IsErrOf result Stop.Write → Rose (K.faults out.old) (K.faults out.new) }
 {
-    let session = run_first(alloc, &main.nodes, &main.places, n)?;
-    let line = run_line(alloc, &session.line(&main.places))?;
-    Ok((session, line))
+    let text = session.obey(alloc, command)?;
+    line.put(&text);
+    write_all(out, line.bytes())?;
+    Ok(())
 }
 
-// The commands `spawn main` and `run N`. Each writes its line in one call before the next one begins.
-fn commands<K: Sink>(alloc: Global, main: &Body, n: u64, out: &mut K) -> Result<RunEnd, Stop>
-    requires body { IsMain (run_body main.now) }
-    requires few { n ≤ 1000000000 }
-    ensures all { OnOk result (Takes (K.taken out.old) (K.taken out.new) (transcript (run_body main.now) (SpawnMain ∷ Run n ∷ []) opened)) }
-    ensures front { OnErr result (TakesFront (K.taken out.old) (K.taken out.new) (transcript (run_body main.now) (SpawnMain ∷ Run n ∷ []) opened)) }
+// Opens a session over the world, and obeys the commands, each before the next.
+fn run_commands<K: Sink>(
+    alloc: Global,
+    image: WorldImage,
+    commands: &[Command],
+    out: &mut K,
+) -> Result<Session, Stop>
+    requires accepted { IsWorld image.world }
+    requires few { length image.world.names ≤ 450000000 }
+    requires short { length commands.now ≤ 1048577 }
+    requires built { list_all is_built commands.now ≡ true }
+    ensures all { OnOk result (Takes (K.taken out.old) (K.taken out.new) (transcript commands.now (begins image.world))) }
+    ensures front { OnErr result (TakesFront (K.taken out.old) (K.taken out.new) (transcript commands.now (begins image.world))) }
     ensures write { IsErrOf result Stop.Write → Rose (K.faults out.old) (K.faults out.new) }
-    ensures shown { IfOk result (λ e. Ran (run_body main.now) n e) }
+    ensures shown { IfOk result (IsDone image.world commands.now) }
 {
-    let line = activity_line(alloc, 1)?;
-    write_all(out, &line)?;
-    let (session, line) = run_main(alloc, main, n)?;
-    write_all(out, &line)?;
+    let mut session = session_over(alloc, image)?;
+    let mut line = Line::open(alloc)?;
+    for at in 0..commands.len() {
+        obey(&mut session, alloc, &commands[at], &mut line, out)?;
+    }
     Ok(session)
 }

@@ -4,7 +4,7 @@ ghost use Rattle.std.specs.Option.{option_copied};
 ghost use Rattle.self_debugger.specs.Words.{Job, Asks, IsFileName};
 ghost use Rattle.self_debugger.specs.Tasks.{meant};
 
-use first_text::plain_number;
+use crate::numbers::plain_number;
 
 /// What accepted words ask for.
 #[derive(Clone, Copy)]

@@ -1,21 +1,22 @@
-// The world of a file, and the body of its method `main`.
-ghost use Rattle.std.specs.Prelude.{◌≡◌, ◌+◌, ◌≤◌, length, option_map, codes, Ok, Err, IfOk, IfErr};
-ghost use Rattle.std.specs.Option.{option_copied};
+// The world of a file, and a session over it.
+ghost use Rattle.std.specs.Prelude.{◌≡◌, ◌+◌, ◌≤◌, [], length, Ok, Err, IfOk, IfErr};
 ghost use Rattle.self_tokens.specs.Tokens.{tokens};
 ghost use Rattle.self_grammar.specs.Grammar.{World as Text};
 ghost use Rattle.self_grammar.specs.Spelling.{world};
 ghost use Rattle.self_reader.specs.declared.texts.TheConstants.{LIMITS};
 ghost use Rattle.self_signs.specs.Signs.{signs, names_after};
 ghost use Rattle.self_reader.specs.Texts.{AreRead, known};
-ghost use Rattle.source_model.specs.Names.{number_of};
-ghost use Rattle.self_debugger.specs.WorldFiles.{WorldRead, run_body, main_of};
+ghost use Rattle.plain_turns.specs.Asking.{count};
+ghost use Rattle.plain_session.specs.Sessions.{host_of, Shows};
+ghost use Rattle.self_debugger.specs.WorldFiles.{WorldRead, begins};
+ghost use Rattle.self_debugger.specs.Parts.{IsWorld};
 
 use crate::lines::{build_line, read_line};
+use plain_session::Session;
 use self_reader::{ReadStop, WorldTree, read_world};
-use self_terms::{Body, Name, Names};
 use std::alloc::{AllocError, Global};
-use world_build::World;
 use world_image::{WorldImage, build};
+use world_test::session_names;
 
 /// The world of the bytes of a file, with its maps and words, or the line that refuses them.
 pub fn world_of(alloc: Global, bytes: &[u8]) -> Result<Result<WorldImage, Vec<u8>>, AllocError>
@@ -51,32 +52,14 @@ fn build_world(
     }
 }
 
-// The number of a text among the names, from 1; 0 where it has none.
-fn number_of(names: &Names, text: &[u8]) -> u32
-    requires { length names.now ≤ 450000000 }
-    ensures { result ≡ number_of names.now text.now }
+/// A session over a world that was read, which shows the state with which it begins.
+pub fn session_over(alloc: Global, image: WorldImage) -> Result<Session, AllocError>
+    requires accepted { IsWorld image.world }
+    requires few { length image.world.names ≤ 450000000 }
+    ensures shows { IfOk result (λ x. Shows x (begins image.world)) }
+    ensures idle { IfOk result (λ x. (host_of x).statuses ≡ []) }
+    ensures counted { IfOk result (λ x. count (host_of x) ≡ 0) }
 {
-    for at in 0..names.len() {
-        let number = at as u32 + 1;
-        if text == names.text(Name(number)) {
-            return number;
-        }
-    }
-    0
-}
-
-/// The body of the lobby's own method slot `main`.
-pub fn main_of(world: &World) -> Option<&Body>
-    requires { length world.now.names ≤ 450000000 }
-    ensures { option_map run_body (option_copied result) ≡ main_of world.now }
-{
-    let number = number_of(world.names(), b"main");
-    let body = world.lobby_method(Name(number))?;
-    if body.0 == 0 {
-        return None;
-    }
-    if body.0 > world.bodies() {
-        return None;
-    }
-    Some(world.body(body))
+    let names = session_names(alloc, image.world().names())?;
+    Session::open(alloc, image, names)
 }

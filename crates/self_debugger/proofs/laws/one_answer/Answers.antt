@@ -2,7 +2,7 @@ use Rattle.self_debugger.proofs.OneAnswer.{one, some_answer}
 use Rattle.self_debugger.proofs.laws.one_answer.Goals as goal
 
 pub returns-clause-one : goal.returns-clause-one
-returns-clause-one c = one (record { script = c.one_meaning.ensures.script; number = c.one_meaning.ensures.number })
+returns-clause-one c = one
 
 pub returns-clause-some : goal.returns-clause-some
-returns-clause-some c = some_answer (record { script = c.one_meaning.ensures.script; number = c.one_meaning.ensures.number })
+returns-clause-some c = some_answer

@@ -1,9 +1,0 @@
-use Rattle.std.proofs.Common.{◌≡◌, ◌≤◌, ◌+◌, ◌*◌, ◌^◌, take}
-use Rattle.first_text.specs.Numbers.{number}
-use Rattle.first_text.proofs.fronts.number.Given as goal
-
-abbrev pub invariant-loop-digit : goal.invariant-loop-digit
-invariant-loop-digit l = record {
-  so_far : l.value ≡ number (take l.digit-index l.digits);
-  small : l.value + 23 ≤ 23 * 10 ^ l.digit-index;
-}

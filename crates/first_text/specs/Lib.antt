@@ -1,5 +1,0 @@
-pub mod Numbers
-pub mod Ends
-pub mod Meanings
-pub mod FirstScript
-pub mod Reading

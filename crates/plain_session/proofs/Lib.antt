@@ -1,0 +1,6 @@
+pub mod Onward
+pub mod Counting
+pub mod Gated
+pub mod Writing
+pub mod Keeping
+pub mod Obeying

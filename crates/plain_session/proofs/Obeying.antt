@@ -1,0 +1,315 @@
+-- Commands obeyed.
+use Rattle.std.proofs.Common.{◌≡◌, ◌≢◌, ◌⊎◌, ℕ, zero, suc, ◌+◌, ◌-◌, ◌<◌, ◌≤◌, refl, ◌∙◌, ap, sym, subst, arith, inl, inr}
+use Rattle.std.specs.Prelude.{◌++◌, nat_le, if◌then◌else◌, List, [], ◌∷◌, length, Option, Some, None, Result, Ok, Err, IfOk, OnErr, slice_get, codes}
+use Rattle.std.proofs.lemmas.Bool.{cond-true, cond-false, le-leb, lt-leb}
+use Rattle.std.proofs.lemmas.Option.{slice_get_within}
+use Rattle.self_terms.specs.declared.errors.ErrorName.{ErrorName}
+use Rattle.self_terms.specs.declared.errors.ErrorName.TheVariants as errors
+use Rattle.self_terms.specs.declared.nodes.Place.{Place}
+use Rattle.self_terms.specs.declared.values.Value.{Value}
+use Rattle.source_model.specs.declared.objects.Core.{Core}
+use Rattle.source_model.specs.Formed.{arity}
+use Rattle.source_model.specs.Lines.{line, activity_line, run_line}
+use Rattle.source_model.specs.Names.{number_of}
+use Rattle.source_model.specs.Script.{refused, over, becomes, with_run_line}
+use Rattle.source_model.specs.State.{Activation, Activity, Running, Answered, Failed, State, Reached, silent}
+use Rattle.source_model.specs.Texts.{error_text}
+use Rattle.plain_host.specs.Hosted.{Hosted, host}
+use Rattle.plain_runs.specs.Host.{Host, raw_of}
+use Rattle.plain_runs.specs.declared.status.Status.{Status}
+use Rattle.plain_begins.proofs.Starting.{activities_agree}
+use Rattle.plain_stretches.specs.Gate.{gated_run}
+use Rattle.plain_turns.specs.Asking.{count}
+use Rattle.plain_turns.specs.Resting.{Rests, HasRun}
+use Rattle.plain_births.specs.Meeting.{message}
+use Rattle.plain_core.specs.Gated.{gated_spawn, gated_steps}
+use Rattle.plain_core.specs.Running.{HasRunOn}
+use Rattle.plain_core.specs.Spawning.{IsBirth, IsRefused, HasBegun, Comes}
+use Rattle.plain_core.specs.declared.spawning.Birth.{Birth}
+use Rattle.plain_core.specs.declared.spawning.Birth.TheVariants.{Begun, Missing, NotAMethod, TooMany, NotBuilt}
+use Rattle.run_lines.specs.Standing.{IsStanding, GoesOn}
+use Rattle.run_lines.specs.declared.current.Standing.{Standing}
+use Rattle.run_lines.specs.declared.current.Standing.TheVariants as standings
+use Rattle.session_text.specs.declared.commands.Command.{Command}
+use Rattle.session_text.specs.declared.commands.Command.TheVariants as commands
+use Rattle.plain_session.specs.Commands.{obeyed, gated_continue}
+use Rattle.plain_session.specs.Sessions.{Session, host_of, Shows, IsShown, Obeys, birth_text}
+use Rattle.plain_session.proofs.Gated.{RunsOn, run_remains, run_from}
+use Rattle.plain_session.proofs.Keeping.{gated_spawn_keeps}
+
+-- Machine and host count the steps of the state, and have its current activity.
+pub counts_as : (h : Host) (s : State) → Rests h s → count h ≡ s.steps
+counts_as h s r = r.sound.stands.stands.steps
+
+pub current_as : (h : Host) (s : State) → Rests h s → h.current ≡ s.current
+current_as h s r = r.sound.stands.stands.current
+
+-- Spawns.
+
+module _ (x y : Session) (name : List ℕ) (names : y.names ≡ x.names) (core : y.core ≡ x.core) (room : (host_of y).next ≤ y.room) where
+  shows_spawned : (q : Reached) (t : State) → Shows x q.state → Rests (host_of y) t → (gated_spawn name q).state ≡ t → Shows y (gated_spawn name q).state
+  shows_spawned q t sh r e =
+      let k = gated_spawn_keeps q name in
+      record { rests = subst (λ (s : State). Rests (host_of y) s) (sym e) r; names = k.0 ∙ sh.names ∙ sym names; core = k.1 ∙ sh.core ∙ sym core; room = room }
+
+  abbrev Obeyed : Reached → List ℕ → Type 0
+  Obeyed q text = Shows y (gated_spawn name q).state × ((gated_spawn name q).out ≡ q.out ++ text)
+
+  refuses : (why : List ℕ) (q : Reached) → Shows x q.state → IsRefused why (host_of x) (host_of y) q name → Obeyed q (line (codes "refused " ++ why))
+  refuses why q sh r = (
+    shows_spawned q q.state sh (subst (λ (h : Host). Rests h q.state) (sym r.same) sh.rests) (ap (λ (t : Reached). t.state) r.refuses),
+    ap (λ (t : Reached). t.out) r.refuses,
+  )
+
+  begins : (q : Reached) → Shows x q.state → HasBegun (host_of y) q name → Obeyed q (birth_text (host_of y) Begun)
+  begins q sh b = (
+    shows_spawned q b.state sh b.rests (ap (λ (t : Reached). t.state) b.comes),
+    ap (λ (t : Reached). t.out) b.comes ∙ ap (λ n. q.out ++ activity_line (n + 1)) (sym (current_as (host_of y) b.state b.rests)),
+  )
+
+  comes : (b : Birth) (q : Reached) → Shows x q.state → Comes (host_of x) (host_of y) q name b → Obeyed q (birth_text (host_of y) b)
+  comes Begun q sh c = begins q sh c
+  comes (Missing e) q sh c = refuses (error_text e) q sh c
+  comes NotAMethod q sh c = refuses (codes "not a method") q sh c
+  comes TooMany q sh c = refuses (codes "too many activities") q sh c
+  comes NotBuilt q sh c = refuses (error_text errors.NotBuilt) q sh c
+
+  pub spawn_obeyed : (b : Birth) (number : ℕ) (text : List ℕ) → number ≡ number_of x.names name → arity name ≡ 0 → IsBirth (host_of x) (host_of y) number b → text ≡ birth_text (host_of y) b → Obeys x y (gated_spawn name) text
+  spawn_obeyed b number text is none birth says q sh =
+      let named : message q.state name ≡ number = ap (λ ns. number_of ns name) sh.names ∙ sym is in
+      let o = comes b q sh (birth q name sh.rests named none) in
+      (o.0, o.1 ∙ ap (λ t. q.out ++ t) (sym says))
+
+-- Runs.
+
+over_none : (n : ℕ) (q : Reached) → slice_get q.state.activities q.state.current ≡ None → gated_steps n q ≡ refused (codes "no activity") q
+unfolding gated_steps
+over_none n q e = ap (λ a. over a (λ all r. with_run_line (gated_run n r)) q) e
+
+over_running : (n : ℕ) (q : Reached) (all : List Activation) → slice_get q.state.activities q.state.current ≡ Some (Running all) → gated_steps n q ≡ with_run_line (gated_run n q)
+unfolding gated_steps
+over_running n q all e = ap (λ a. over a (λ all r. with_run_line (gated_run n r)) q) e
+
+over_answered : (n : ℕ) (q : Reached) (v : Value) → slice_get q.state.activities q.state.current ≡ Some (Answered v) → gated_steps n q ≡ refused (codes "ended") q
+unfolding gated_steps
+over_answered n q v e = ap (λ a. over a (λ all r. with_run_line (gated_run n r)) q) e
+
+over_failed : (n : ℕ) (q : Reached) (x : ErrorName) (p : Place) → slice_get q.state.activities q.state.current ≡ Some (Failed x p) → gated_steps n q ≡ refused (codes "ended") q
+unfolding gated_steps
+over_failed n q x p e = ap (λ a. over a (λ all r. with_run_line (gated_run n r)) q) e
+
+refused_obeys : (x : Session) (n : ℕ) (why : List ℕ) (q : Reached) → Shows x q.state → gated_steps n q ≡ refused why q → Shows x (gated_steps n q).state × ((gated_steps n q).out ≡ q.out ++ line (codes "refused " ++ why))
+refused_obeys x n why q sh e = (subst (λ (t : Reached). Shows x t.state) (sym e) sh, ap (λ (t : Reached). t.out) e)
+
+pub nobody_obeys : (x : Session) (n : ℕ) → ((s : State) → Rests (host_of x) s → IsStanding s standings.Nobody) → Obeys x x (gated_steps n) (line (codes "refused no activity"))
+nobody_obeys x n is q sh = refused_obeys x n (codes "no activity") q sh (over_none n q (is q.state sh.rests))
+
+pub ended_obeys : (x : Session) (n : ℕ) → ((s : State) → Rests (host_of x) s → IsStanding s standings.Ended) → Obeys x x (gated_steps n) (line (codes "refused ended"))
+ended_obeys x n is q sh = elim (is q.state sh.rests) [
+  | inl a ↦ refused_obeys x n (codes "ended") q sh (over_answered n q a.0 a.1)
+  | inr f ↦ refused_obeys x n (codes "ended") q sh (over_failed n q f.0 f.1 f.2)
+]
+
+module _ (x y : Session) (n : ℕ) (names : y.names ≡ x.names) (core : y.core ≡ x.core) (room : (host_of y).next ≤ y.room) (ran : HasRunOn x.room n (host_of x) (host_of y)) where
+  module _ (q : Reached) (sh : Shows x q.state) where
+    pub has : HasRun (host_of y) q.state (q.state.steps + n)
+    has = ran.runs q.state sh.rests
+
+    pub so_many : q.state.steps + n - q.state.steps ≡ n
+    so_many = omega arith
+
+    pub runs_to : gated_run n q ≡ record { state = has.state; out = q.out }
+    runs_to = run_from n q has.state (ap (λ k. gated_run k (silent q.state)) (sym so_many) ∙ has.runs)
+
+    pub on : RunsOn n q.state has.state
+    on = subst (λ (t : Reached). RunsOn n q.state t.state) runs_to (run_remains n q)
+
+    pub shows_run : Shows y has.state
+    shows_run = record { rests = has.rests; names = on.names ∙ sh.names ∙ sym names; core = on.core ∙ sh.core ∙ sym core; room = room }
+
+    pub counts_few : count (host_of y) ≤ count (host_of x) + n
+    counts_few = let a = counts_as (host_of x) q.state sh.rests in let b = counts_as (host_of y) has.state has.rests in let f = on.few in omega (arith, a, b, f)
+
+    -- there is still a current activity
+    pub current_there : GoesOn (host_of x) → (host_of y).current < length (host_of y).statuses
+    current_there g =
+        let many = activities_agree sh.rests.sense (host_of x) q.state sh.rests.sound.stands in
+        let still = activities_agree has.rests.sense (host_of y) has.state has.rests.sound.stands in
+        let was = slice_get_within (host_of x).statuses (host_of x).current _ g.3 in
+        let before = current_as (host_of x) q.state sh.rests in
+        let after = current_as (host_of y) has.state has.rests in
+        let same = on.current in
+        let all = on.activities in
+        omega (arith, many, still, was, before, after, same, all)
+
+    goes_obeyed : (all : List Activation) (text : List ℕ) → slice_get q.state.activities q.state.current ≡ Some (Running all) → text ≡ run_line has.state → Shows y (gated_steps n q).state × ((gated_steps n q).out ≡ q.out ++ text)
+    goes_obeyed all text here says =
+        let e : gated_steps n q ≡ with_run_line (record { state = has.state; out = q.out }) = over_running n q all here ∙ ap with_run_line runs_to in
+        (subst (λ (t : Reached). Shows y t.state) (sym e) shows_run, ap (λ (t : Reached). t.out) e ∙ ap (λ t. q.out ++ t) (sym says))
+
+  pub run_obeyed : (text : List ℕ) → ((s : State) → Rests (host_of x) s → IsStanding s standings.Goes) → ((s : State) → Rests (host_of y) s → s.core ≡ y.core → text ≡ run_line s) → Obeys x y (gated_steps n) text
+  run_obeyed text goes says q sh =
+      let g = goes q.state sh.rests in
+      goes_obeyed q sh g.0 text g.1 (says (has q sh).state (has q sh).rests (shows_run q sh).core)
+
+-- Runs to a count of steps.
+
+abbrev Onward : ℕ → List Activation → Reached → Reached
+Onward n all q = if nat_le q.state.steps n then with_run_line (gated_run (n - q.state.steps) q) else refused (codes "past") q
+
+continues_over : (n : ℕ) (x : Option Activity) (q : Reached) → q.state.steps ≤ n → over x (Onward n) q ≡ over x (λ all r. with_run_line (gated_run (n - q.state.steps) r)) q
+continues_over n None q le = refl
+continues_over n (Some (Running all)) q le = cond-true (nat_le q.state.steps n) _ _ (le-leb q.state.steps n le)
+continues_over n (Some (Answered v)) q le = refl
+continues_over n (Some (Failed e p)) q le = refl
+
+continues_as : (n k : ℕ) (q : Reached) → q.state.steps ≤ n → k ≡ n - q.state.steps → gated_continue n q ≡ gated_steps k q
+unfolding gated_continue gated_steps
+continues_as n k q le e = continues_over n (slice_get q.state.activities q.state.current) q le ∙ ap (λ m. over (slice_get q.state.activities q.state.current) (λ all r. with_run_line (gated_run m r)) q) (sym e)
+
+pub continue_obeyed : (x y : Session) (n k done : ℕ) (text : List ℕ) → done ≡ count (host_of x) → done ≤ n → k ≡ n - done → Obeys x y (gated_steps k) text → Obeys x y (gated_continue n) text
+continue_obeyed x y n k done text is le left o q sh =
+    let steps = is ∙ counts_as (host_of x) q.state sh.rests in
+    let same : gated_continue n q ≡ gated_steps k q = continues_as n k q (omega (arith, steps, le)) (left ∙ ap (λ m. n - m) steps) in
+    let P : Reached → Type 0 = λ t. Shows y t.state × (t.out ≡ q.out ++ text) in
+    subst P (sym same) (o q sh)
+
+past_over : (n : ℕ) (all : List Activation) (x : Option Activity) (q : Reached) → x ≡ Some (Running all) → n < q.state.steps → over x (Onward n) q ≡ refused (codes "past") q
+past_over n all x q here lt = ap (λ a. over a (Onward n) q) here ∙ cond-false (nat_le q.state.steps n) _ _ (lt-leb q.state.steps n lt)
+
+past_is : (n : ℕ) (all : List Activation) (q : Reached) → slice_get q.state.activities q.state.current ≡ Some (Running all) → n < q.state.steps → gated_continue n q ≡ refused (codes "past") q
+unfolding gated_continue
+past_is n all q here lt = past_over n all (slice_get q.state.activities q.state.current) q here lt
+
+refused_as : (x : Session) (does : Reached → Reached) (why : List ℕ) (q : Reached) → Shows x q.state → does q ≡ refused why q → Shows x (does q).state × ((does q).out ≡ q.out ++ line (codes "refused " ++ why))
+refused_as x does why q sh e = (subst (λ (t : Reached). Shows x t.state) (sym e) sh, ap (λ (t : Reached). t.out) e)
+
+pub past_obeys : (x : Session) (n done : ℕ) → done ≡ count (host_of x) → n < done → ((s : State) → Rests (host_of x) s → IsStanding s standings.Goes) → Obeys x x (gated_continue n) (line (codes "refused past"))
+past_obeys x n done is lt goes q sh =
+    let g = goes q.state sh.rests in
+    let steps = is ∙ counts_as (host_of x) q.state sh.rests in
+    refused_as x (gated_continue n) (codes "past") q sh (past_is n g.0 q g.1 (omega (arith, steps, lt)))
+
+idle_over : (n : ℕ) (q : Reached) → slice_get q.state.activities q.state.current ≡ None → gated_continue n q ≡ refused (codes "no activity") q
+unfolding gated_continue
+idle_over n q e = ap (λ a. over a (Onward n) q) e
+
+answered_over : (n : ℕ) (q : Reached) (v : Value) → slice_get q.state.activities q.state.current ≡ Some (Answered v) → gated_continue n q ≡ refused (codes "ended") q
+unfolding gated_continue
+answered_over n q v e = ap (λ a. over a (Onward n) q) e
+
+failed_over : (n : ℕ) (q : Reached) (x : ErrorName) (p : Place) → slice_get q.state.activities q.state.current ≡ Some (Failed x p) → gated_continue n q ≡ refused (codes "ended") q
+unfolding gated_continue
+failed_over n q x p e = ap (λ a. over a (Onward n) q) e
+
+pub nobody_continues : (x : Session) (n : ℕ) → ((s : State) → Rests (host_of x) s → IsStanding s standings.Nobody) → Obeys x x (gated_continue n) (line (codes "refused no activity"))
+nobody_continues x n is q sh = refused_as x (gated_continue n) (codes "no activity") q sh (idle_over n q (is q.state sh.rests))
+
+pub ended_continues : (x : Session) (n : ℕ) → ((s : State) → Rests (host_of x) s → IsStanding s standings.Ended) → Obeys x x (gated_continue n) (line (codes "refused ended"))
+ended_continues x n is q sh = elim (is q.state sh.rests) [
+  | inl a ↦ refused_as x (gated_continue n) (codes "ended") q sh (answered_over n q a.0 a.1)
+  | inr f ↦ refused_as x (gated_continue n) (codes "ended") q sh (failed_over n q f.0 f.1 f.2)
+]
+
+-- A session's parts before and behind a call.
+
+abbrev pub of_parts : Hosted → ℕ → List (List ℕ) → Core → Session
+of_parts hosted room names core = record { hosted = hosted; room = room; names = names; core = core }
+
+none_beyond : (xs : List Status) (k : ℕ) → slice_get xs k ≡ None → length xs ≤ k
+none_beyond [] k e = omega arith
+none_beyond (y ∷ ys) zero e = absurd (cc)
+none_beyond (y ∷ ys) (suc k) e = omega (arith, none_beyond ys k e)
+
+module _ (x : Session) (old new : Hosted) (room after : ℕ) (names : List (List ℕ)) (core : Core) (is : of_parts old room names core ≡ x) (same : after ≡ room) (shown : IsShown x) where
+  abbrev before : Session
+  before = of_parts old room names core
+
+  abbrev now : Session
+  now = of_parts new after names core
+
+  shown_before : IsShown before
+  shown_before = subst IsShown (sym is) shown
+
+  module _ (number : ℕ) (name : List ℕ) (b : Birth) (named : number ≡ number_of names name) (none : arity name ≡ 0) (born : IsBirth (host old) (host new) number b) (objects : (host new).next ≡ (host old).next) where
+    still_room : (host new).next ≤ after
+    still_room = let r = shown_before.1.room in omega (arith, r, objects, same)
+
+    obeys_before : Obeys before now (gated_spawn name) (birth_text (host new) b)
+    obeys_before = spawn_obeyed before now name refl refl still_room b number (birth_text (host new) b) named none born refl
+
+    pub spawned_obeys : (text : List ℕ) → text ≡ birth_text (host new) b → Obeys x now (gated_spawn name) text
+    spawned_obeys text says =
+        let P : List ℕ → Type 0 = λ t. Obeys x now (gated_spawn name) t in
+        let Q : Session → Type 0 = λ z. Obeys z now (gated_spawn name) (birth_text (host new) b) in
+        subst P (sym says) (subst Q is obeys_before)
+
+    spawned_shows : Shows now (gated_spawn name (silent shown_before.0)).state
+    spawned_shows = (obeys_before (silent shown_before.0) shown_before.1).0
+
+    pub spawned_rests : (s : State) × Rests (host new) s
+    spawned_rests = ((gated_spawn name (silent shown_before.0)).state, spawned_shows.rests)
+
+    pub spawned_counts : count (host new) ≡ count (host_of x)
+    spawned_counts =
+        counts_as (host new) (gated_spawn name (silent shown_before.0)).state spawned_shows.rests
+        ∙ (gated_spawn_keeps (silent shown_before.0) name).2 ∙ sym (counts_as (host old) shown_before.0 shown_before.1.rests) ∙ ap (λ z. count (host_of z)) is
+
+  module _ (n : ℕ) (ran : HasRunOn room n (host old) (host new)) (roomy : (host new).next ≤ room) where
+    has_room : (host new).next ≤ after
+    has_room = omega (arith, roomy, same)
+
+    went_shows : Shows now (has before now n refl refl has_room ran (silent shown_before.0) shown_before.1).state
+    went_shows = shows_run before now n refl refl has_room ran (silent shown_before.0) shown_before.1
+
+    pub went_rests : (s : State) × Rests (host new) s × (s.core ≡ core)
+    went_rests = ((has before now n refl refl has_room ran (silent shown_before.0) shown_before.1).state, went_shows.rests, went_shows.core)
+
+    pub went_counts : count (host new) ≤ count (host_of x) + n
+    went_counts =
+        let few = counts_few before now n refl refl has_room ran (silent shown_before.0) shown_before.1 in
+        subst (λ (z : Session). count (host new) ≤ count (host_of z) + n) is few
+
+    pub went_there : GoesOn (host_of x) → slice_get (host new).statuses (host new).current ≢ None
+    went_there goes e =
+        let there = current_there before now n refl refl has_room ran (silent shown_before.0) shown_before.1 (subst (λ (z : Session). GoesOn (host_of z)) (sym is) goes) in
+        let beyond = none_beyond (host new).statuses (host new).current e in
+        omega (arith, there, beyond)
+
+    pub went_obeys : (text : List ℕ) → ((s : State) → Rests (host_of x) s → IsStanding s standings.Goes) → ((s : State) → Rests (host new) s → s.core ≡ core → text ≡ run_line s) → Obeys x now (gated_steps n) text
+    went_obeys text goes says =
+        let Q : Session → Type 0 = λ z. Obeys z now (gated_steps n) text in
+        subst Q is (run_obeyed before now n refl refl has_room ran text (λ s r. goes s (subst (λ (z : Session). Rests (host_of z) s) is r)) says)
+
+pub rests_inside : (x : Session) (old : Hosted) (room : ℕ) (names : List (List ℕ)) (core : Core) → of_parts old room names core ≡ x → (s : State) → Rests (host_of x) s → Rests (host old) s
+rests_inside x old room names core is s r = subst (λ (z : Session). Rests (host_of z) s) (sym is) r
+
+pub on_err : {T E : Type 0} (r : Result T E) (P : Type 0) → P → OnErr r P
+on_err (Ok v) P p = tt
+on_err (Err e) P p = p
+
+pub ok_then : {T E : Type 0} (r : Result T E) {P Q : T → Type 0} → IfOk r P → ((t : T) → P t → Q t) → IfOk r Q
+ok_then (Ok t) p f = f t p
+ok_then (Err e) p f = tt
+
+-- Which command it is.
+
+pub spawn_is : (c : Command) (name : List ℕ) → c ≡ commands.Spawn name → obeyed c ≡ gated_spawn name
+unfolding obeyed
+spawn_is c name e = ap obeyed e
+
+pub run_is : (c : Command) (n : ℕ) → c ≡ commands.Run n → obeyed c ≡ gated_steps n
+unfolding obeyed
+run_is c n e = ap obeyed e
+
+pub continue_is : (c : Command) (n : ℕ) → c ≡ commands.Continue n → obeyed c ≡ gated_continue n
+unfolding obeyed
+continue_is c n e = ap obeyed e
+
+pub step_is : (c : Command) → c ≡ commands.Step → obeyed c ≡ gated_steps 1
+unfolding obeyed
+step_is c e = ap obeyed e
+
+pub interrupt_is : (c : Command) (n : ℕ) → c ≡ commands.Interrupt n → obeyed c ≡ gated_steps n
+unfolding obeyed
+interrupt_is c n e = ap obeyed e

@@ -1,0 +1,99 @@
+-- Commands write behind what was written before.
+use Rattle.std.proofs.Common.{◌≡◌, ℕ, ◌+◌, refl, ◌∙◌, ap, sym, append_assoc, append-nil}
+use Rattle.std.specs.Prelude.{◌++◌, ◌-◌, nat_lt, nat_le, if◌then◌else◌, Bool, true, false, cond, List, [], ◌∷◌, length, Option, Some, None, Ok, Err, slice_get, codes}
+use Rattle.self_terms.specs.declared.errors.ErrorName.TheVariants as errors
+use Rattle.self_terms.specs.declared.values.Value.TheVariants as values
+use Rattle.source_model.specs.declared.objects.Content.TheVariants.{Constant, Assignable, Assignment, Parent, Method}
+use Rattle.source_model.specs.Lines.{line, activity_line, run_line}
+use Rattle.source_model.specs.Messages.{Met, Missing, Holds, meets}
+use Rattle.source_model.specs.Names.{number_of}
+use Rattle.source_model.specs.Script.{refused, spawned, with_activity, spawn_met, spawn, over, over_current, with_run_line}
+use Rattle.source_model.specs.Sends.{Outcome, begun, enters}
+use Rattle.source_model.specs.State.{Activation, Activity, Running, Answered, Failed, State, Reached, silent}
+use Rattle.source_model.specs.Texts.{error_text}
+use Rattle.source_model.proofs.Keeping.{either}
+use Rattle.plain_stretches.specs.Gate.{gated_run}
+use Rattle.plain_core.specs.Gated.{may_spawn, gated_spawn, gated_steps}
+use Rattle.session_text.specs.declared.commands.Command.{Command}
+use Rattle.session_text.specs.declared.commands.Command.TheVariants as commands
+use Rattle.plain_session.specs.Commands.{obeyed, all_obeyed, gated_continue}
+use Rattle.plain_session.proofs.Gated.{behind, run_behind, as_behind}
+
+abbrev pub Writes : Reached → Reached → Type 0
+Writes r t = (x : List ℕ) × (t.out ≡ r.out ++ x)
+
+nothing : (r : Reached) → Writes r r
+nothing r = ([], sym (append-nil r.out))
+
+refuses : (why : List ℕ) (r : Reached) → Writes r (refused why r)
+refuses why r = (line (codes "refused " ++ why), refl)
+
+spawned_writes : (o : Outcome) (r : Reached) → Writes r (spawned o r)
+spawned_writes (Ok t) r = (activity_line (t.state.current + 1), refl)
+spawned_writes (Err e) r = refuses (error_text e) r
+
+met_writes : (met : Met) (r : Reached) → Writes r (spawn_met met r)
+met_writes (Missing e) r = refuses (error_text e) r
+met_writes (Holds o (Method b)) r = spawned_writes (enters (begun r.state b.0 (values.Object 0) o None []) [] (with_activity r.state)) r
+met_writes (Holds o (Constant v)) r = refuses (codes "not a method") r
+met_writes (Holds o (Assignable v)) r = refuses (codes "not a method") r
+met_writes (Holds o Assignment) r = refuses (codes "not a method") r
+met_writes (Holds o (Parent p)) r = refuses (codes "not a method") r
+
+spawn_writes : (name : List ℕ) (r : Reached) → Writes r (spawn name r)
+spawn_writes name r =
+    let met = meets r.state (values.Object 0) (number_of r.state.names name) in
+    either (Writes r) (nat_lt (length r.state.activities) 4) (spawn_met met r) (refused (codes "too many activities") r) (met_writes met r) (refuses (codes "too many activities") r)
+
+gated_spawn_writes : (name : List ℕ) (r : Reached) → Writes r (gated_spawn name r)
+unfolding gated_spawn
+gated_spawn_writes name r = either (Writes r) (may_spawn name r.state) (spawn name r) (refused (error_text errors.NotBuilt) r) (spawn_writes name r) (refuses (error_text errors.NotBuilt) r)
+
+run_writes : (n : ℕ) (r : Reached) → Writes r (with_run_line (gated_run n r))
+run_writes n r =
+    let t = gated_run n (silent r.state) in
+    let same : gated_run n r ≡ behind r.out t = ap (gated_run n) (as_behind r) ∙ run_behind n r.out (silent r.state) in
+    (t.out ++ run_line t.state, ap (λ (q : Reached). q.out ++ run_line q.state) same ∙ append_assoc r.out t.out (run_line t.state))
+
+over_writes : (n : ℕ) (x : Option Activity) (r : Reached) → Writes r (over x (λ all q. with_run_line (gated_run n q)) r)
+over_writes n None r = refuses (codes "no activity") r
+over_writes n (Some (Running all)) r = run_writes n r
+over_writes n (Some (Answered v)) r = refuses (codes "ended") r
+over_writes n (Some (Failed e p)) r = refuses (codes "ended") r
+
+gated_steps_writes : (n : ℕ) (r : Reached) → Writes r (gated_steps n r)
+unfolding gated_steps
+gated_steps_writes n r = over_writes n (slice_get r.state.activities r.state.current) r
+
+continue_over : (n : ℕ) (x : Option Activity) (r : Reached) → Writes r (over x (λ all q. if nat_le q.state.steps n then with_run_line (gated_run (n - q.state.steps) q) else refused (codes "past") q) r)
+continue_over n None r = refuses (codes "no activity") r
+continue_over n (Some (Running all)) r = either (Writes r) (nat_le r.state.steps n) (with_run_line (gated_run (n - r.state.steps) r)) (refused (codes "past") r) (run_writes (n - r.state.steps) r) (refuses (codes "past") r)
+continue_over n (Some (Answered v)) r = refuses (codes "ended") r
+continue_over n (Some (Failed e p)) r = refuses (codes "ended") r
+
+continue_writes : (n : ℕ) (r : Reached) → Writes r (gated_continue n r)
+unfolding gated_continue
+continue_writes n r = continue_over n (slice_get r.state.activities r.state.current) r
+
+pub command_writes : (c : Command) (r : Reached) → Writes r (obeyed c r)
+unfolding obeyed
+command_writes (commands.Spawn name) r = gated_spawn_writes name r
+command_writes (commands.Run n) r = gated_steps_writes n r
+command_writes (commands.Switch k) r = nothing r
+command_writes (commands.Continue n) r = continue_writes n r
+command_writes commands.Step r = gated_steps_writes 1 r
+command_writes (commands.Interrupt n) r = gated_steps_writes n r
+command_writes (commands.Finish n) r = nothing r
+command_writes commands.Stack r = nothing r
+command_writes (commands.Edit path text) r = nothing r
+command_writes commands.Units r = nothing r
+command_writes commands.Machine r = nothing r
+command_writes (commands.Advisor k) r = nothing r
+
+both : (r s t : Reached) → Writes r s → Writes s t → Writes r t
+both r s t x y = (x.0 ++ y.0, y.1 ∙ ap (λ o. o ++ y.0) x.1 ∙ append_assoc r.out x.0 y.0)
+
+pub commands_write : (cs : List Command) (r : Reached) → Writes r (all_obeyed cs r)
+unfolding all_obeyed
+commands_write [] r = nothing r
+commands_write (c ∷ more) r = both r (obeyed c r) (all_obeyed more (obeyed c r)) (command_writes c r) (commands_write more (obeyed c r))

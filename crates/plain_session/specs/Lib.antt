@@ -1,0 +1,3 @@
+-- Sessions in plain code.
+pub mod Sessions
+pub mod Commands

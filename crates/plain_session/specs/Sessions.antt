@@ -1,0 +1,50 @@
+-- A session over a world.
+use Rattle.std.specs.Prelude.{◌≡◌, ℕ, ◌+◌, ◌≤◌, ◌++◌, List, codes}
+use Rattle.source_model.specs.declared.objects.Core.{Core}
+use Rattle.source_model.specs.State.{State, Reached}
+use Rattle.plain_host.specs.Hosted.{Hosted, host}
+use Rattle.plain_runs.specs.Host.{Host}
+use Rattle.source_model.specs.Lines.{line, activity_line}
+use Rattle.source_model.specs.Texts.{error_text}
+use Rattle.plain_turns.specs.Resting.{Rests}
+use Rattle.plain_core.specs.Leading.{Leads}
+use Rattle.plain_core.specs.declared.spawning.Birth.{Birth}
+use Rattle.plain_core.specs.declared.spawning.Birth.TheVariants.{Begun, Missing, NotAMethod, TooMany, NotBuilt}
+
+-- What it holds: machine and host; room for walks over so many objects; the texts of its names; the objects that the language itself knows.
+pub record Session : Type 0 where
+  pub hosted : Hosted
+  pub room : ℕ
+  pub names : List (List ℕ)
+  pub core : Core
+
+-- its machine and host
+abbrev pub host_of : Session → Host
+host_of x = host x.hosted
+
+-- Machine and host stand for the state, whose names and known objects the session has, and it has room for walks over all objects.
+pub record Shows (x : Session) (s : State) : Type 0 where
+  pub rests : Rests (host_of x) s
+  pub names : s.names ≡ x.names
+  pub core : s.core ≡ x.core
+  pub room : (host_of x).next ≤ x.room
+
+abbrev pub IsShown : Session → Type 0
+IsShown x = (s : State) × Shows x s
+
+-- Whatever the session shows, and whatever was written before: it then shows what the command comes to, which writes this text.
+abbrev pub Obeys : Session → Session → (Reached → Reached) → List ℕ → Type 0
+Obeys x y does text = (q : Reached) → Shows x q.state → Shows y (does q).state × ((does q).out ≡ q.out ++ text)
+
+-- Machine and host were reached by instructions and services alone, and the room for walks is as it was.
+pub record IsLed (x y : Session) : Type 0 where
+  pub leads : Leads x.room (host_of x) (host_of y)
+  pub room : y.room ≡ x.room
+
+-- the line of what a spawn came to, where machine and host are these then
+abbrev pub birth_text : Host → Birth → List ℕ
+birth_text h Begun = activity_line (h.current + 1)
+birth_text h (Missing e) = line (codes "refused " ++ error_text e)
+birth_text h NotAMethod = line (codes "refused not a method")
+birth_text h TooMany = line (codes "refused too many activities")
+birth_text h NotBuilt = line (codes "refused notBuilt")

@@ -1,0 +1,12 @@
+// A session in plain code: the commands of a script over a world that was opened.
+//
+// Model: `Session` (specs/Sessions.antt) holds machine and host; `Shows` says for which state of the source it stands. What a command comes to is
+// the source's command behind the gate of what isn't built (`obeyed` of specs/Commands.antt).
+// Promise: a command leaves the session showing what the source's command comes to, and gives the line that it writes.
+#![tactic(auto)]
+
+mod commands;
+mod sessions;
+
+pub use commands::{all_built, is_built};
+pub use sessions::Session;

@@ -1,0 +1,230 @@
+//! Sessions and their commands.
+ghost use Rattle.std.specs.Prelude.{◌≡◌, ◌≢◌, ◌≤◌, ◌+◌, ◌^◌, ◌++◌, ℕ, [], true, codes, length, slice_get, None, Some, IfOk, OnErr};
+ghost use Rattle.source_model.specs.Formed.{IsWellFormed, arity};
+ghost use Rattle.source_model.specs.Lines.{activity_line};
+ghost use Rattle.source_model.specs.Texts.{error_text};
+ghost use Rattle.session_text.specs.LineTexts.{HasRoom, line_text};
+ghost use Rattle.plain_steps.specs.Steps.{NamesSums};
+ghost use Rattle.plain_host.specs.Hosted.{host};
+ghost use Rattle.plain_turns.specs.Asking.{count};
+ghost use Rattle.plain_opens.specs.Opens.{CanOpen};
+ghost use Rattle.plain_core.specs.Gated.{gated_spawn, gated_steps};
+ghost use Rattle.plain_core.specs.Spawning.{CanSpawn};
+ghost use Rattle.run_lines.specs.Standing.{GoesOn, IsStanding};
+ghost use Rattle.run_lines.specs.declared.current.Standing.TheVariants as standings;
+ghost use Rattle.source_model.specs.State.{State};
+ghost use Rattle.plain_turns.specs.Resting.{Rests};
+ghost use Rattle.world_state.specs.Begun.{begun};
+ghost use Rattle.plain_session.specs.Commands.{is_built, obeyed, gated_continue};
+ghost use Rattle.plain_session.specs.Sessions.{host_of, Shows, IsShown, Obeys, IsLed, birth_text};
+
+use plain_core::Birth;
+use plain_host::Hosting;
+use run_lines::{Standing, run_line, standing_of};
+use self_terms::{ErrorName, Name, Names, OutOfMemory};
+use session_text::{Command, LineText};
+use slot_lookup::Walk;
+use source_model::Core;
+use std::alloc::Global;
+use std::marker::Model;
+use world_heap::WorldImage;
+use world_test::number_of;
+
+/// Machine and host of a world; room for walks over its objects; the texts of its names; the objects that the language itself knows.
+#[derive(Drop)]
+pub struct Session {
+    hosting: Hosting,
+    walk: Walk,
+    names: Names,
+    core: Core,
+}
+
+impl Model for Session {
+    ghost use Rattle.std.specs.Prelude.{◌≤◌, length};
+    ghost use Rattle.plain_session.specs.Sessions as sessions;
+
+    ghost Value = { sessions.Session };
+
+    ghost view = { λ x. record { hosted = x.hosting; room = x.walk; names = x.names; core = x.core } };
+
+    ghost invariant = { λ x. length x.names ≤ 500000000 };
+}
+
+// Why a message isn't answered, as a line of a refused command.
+fn refusal(error: ErrorName) -> &'static str
+    ensures { result.now ≡ codes "refused " ++ error_text error }
+{
+    match error {
+        ErrorName::BadType => "refused badTypeError",
+        ErrorName::Overflow => "refused overflowError",
+        ErrorName::DivisionByZero => "refused divisionByZeroError",
+        ErrorName::BadIndex => "refused badIndexError",
+        ErrorName::BadSize => "refused badSizeError",
+        ErrorName::PrimitiveNotDefined => "refused primitiveNotDefined",
+        ErrorName::NotUnderstood => "refused notUnderstood",
+        ErrorName::Ambiguous => "refused ambiguous",
+        ErrorName::NonLifoBlock => "refused nonLifoBlock",
+        ErrorName::StackOverflow => "refused stackOverflow",
+        ErrorName::StoreFull => "refused storeFull",
+        ErrorName::NotBuilt => "refused notBuilt",
+    }
+}
+
+// The line of the activity that has become the current one.
+fn begun_line(hosting: &Hosting) -> LineText<'static>
+    requires { CanSpawn (host hosting.now) }
+    ensures line { line_text result ≡ activity_line ((host hosting.now).current + 1) }
+    ensures room { HasRoom result }
+{
+    let current = hosting.current();
+    LineText::Activity(current as u8 + 1)
+}
+
+// The line of a birth.
+fn birth_line(hosting: &Hosting, birth: Birth) -> LineText<'static>
+    requires { CanSpawn (host hosting.now) }
+    ensures line { line_text result ≡ birth_text (host hosting.now) birth }
+    ensures room { HasRoom result }
+{
+    match birth {
+        Birth::Begun => begun_line(hosting),
+        Birth::Missing(error) => LineText::Fixed(refusal(error)),
+        Birth::NotAMethod => LineText::Fixed("refused not a method"),
+        Birth::TooMany => LineText::Fixed("refused too many activities"),
+        Birth::NotBuilt => LineText::Fixed("refused notBuilt"),
+    }
+}
+
+impl Session {
+    /// The session over a world with these names, which shows the state with which it begins.
+    pub fn open(alloc: Global, image: WorldImage, names: Names) -> Result<Session, OutOfMemory>
+        requires opens { CanOpen image.world }
+        requires formed { IsWellFormed (begun image.world names 0) }
+        requires sums { NamesSums names }
+        requires few { length names ≤ 500000000 }
+        ensures shows { IfOk result (λ x. Shows x (begun image.world names 0)) }
+        ensures idle { IfOk result (λ x. (host_of x).statuses ≡ []) }
+    {
+        let core = image.world().core();
+        let hosting = plain_opens::open(alloc, image)?;
+        let walk = Walk::open(alloc, hosting.next())?;
+        Ok(Session {
+            hosting,
+            walk,
+            names,
+            core,
+        })
+    }
+
+    /// The command `spawn` of a name that takes no arguments, and its line. After want of memory machine and host are as they were.
+    pub fn spawn(&mut self, alloc: Global, name: &[u8]) -> Result<LineText<'static>, OutOfMemory>
+        requires shows { IsShown self.old }
+        requires plain { arity name.now ≡ 0 }
+        ensures obeys { IfOk result (λ t. Obeys self.old self.new (gated_spawn name.now) (line_text t)) }
+        ensures room { IfOk result HasRoom }
+        ensures counted { IfOk result (λ t. count (host_of self.new) ≡ count (host_of self.old)) }
+        ensures led { IfOk result (λ t. IsLed self.old self.new) }
+        ensures unchanged { OnErr result (host_of self.new ≡ host_of self.old) }
+    {
+        let number = number_of(&self.names, name);
+        let birth = plain_core::spawn(&mut self.hosting, alloc, &mut self.walk, Name(number))?;
+        Ok(birth_line(&self.hosting, birth))
+    }
+
+    // A run of the current activity, which goes on.
+    fn go(&mut self, alloc: Global, steps: u32) -> Result<LineText<'static>, OutOfMemory>
+        requires shows { IsShown self.old }
+        requires few { steps ≤ 1000000000 }
+        requires counted { count (host_of self.old) ≤ 2 ^ 60 }
+        requires goes { GoesOn (host_of self.old) }
+        requires stands { (s : State) → Rests (host_of self.old) s → IsStanding s standings.Goes }
+        ensures obeys { IfOk result (λ t. Obeys self.old self.new (gated_steps steps) (line_text t)) }
+        ensures room { IfOk result HasRoom }
+        ensures counted { IfOk result (λ t. count (host_of self.new) ≤ count (host_of self.old) + steps) }
+        ensures led { IfOk result (λ t. IsLed self.old self.new) }
+    {
+        plain_core::run(&mut self.hosting, alloc, &mut self.walk, steps)?;
+        Ok(run_line(&self.hosting, self.core))
+    }
+
+    /// The command `run` of so many steps, and its line. After want of memory the session can't go on.
+    pub fn run(&mut self, alloc: Global, steps: u32) -> Result<LineText<'static>, OutOfMemory>
+        requires shows { IsShown self.old }
+        requires few { steps ≤ 1000000000 }
+        requires counted { count (host_of self.old) ≤ 2 ^ 60 }
+        ensures obeys { IfOk result (λ t. Obeys self.old self.new (gated_steps steps) (line_text t)) }
+        ensures room { IfOk result HasRoom }
+        ensures counted { IfOk result (λ t. count (host_of self.new) ≤ count (host_of self.old) + steps) }
+        ensures led { IfOk result (λ t. IsLed self.old self.new) }
+    {
+        match standing_of(&self.hosting) {
+            Standing::Nobody => Ok(LineText::Fixed("refused no activity")),
+            Standing::Goes => self.go(alloc, steps),
+            Standing::Ended => Ok(LineText::Fixed("refused ended")),
+        }
+    }
+
+    // On to a count of steps, where the current activity goes on.
+    fn go_to(&mut self, alloc: Global, steps: u32) -> Result<LineText<'static>, OutOfMemory>
+        requires shows { IsShown self.old }
+        requires few { steps ≤ 1000000000 }
+        requires counted { count (host_of self.old) ≤ 2 ^ 60 }
+        requires goes { GoesOn (host_of self.old) }
+        requires stands { (s : State) → Rests (host_of self.old) s → IsStanding s standings.Goes }
+        ensures obeys { IfOk result (λ t. Obeys self.old self.new (gated_continue steps) (line_text t)) }
+        ensures room { IfOk result HasRoom }
+        ensures counted { IfOk result (λ t. count (host_of self.new) ≤ count (host_of self.old) + steps) }
+        ensures led { IfOk result (λ t. IsLed self.old self.new) }
+    {
+        let done = self.hosting.steps();
+        if done > steps as u64 {
+            return Ok(LineText::Fixed("refused past"));
+        }
+        self.go(alloc, steps - done as u32)
+    }
+
+    /// The command `continue` to a count of steps, and its line. After want of memory the session can't go on.
+    pub fn continue_to(
+        &mut self,
+        alloc: Global,
+        steps: u32,
+    ) -> Result<LineText<'static>, OutOfMemory>
+        requires shows { IsShown self.old }
+        requires few { steps ≤ 1000000000 }
+        requires counted { count (host_of self.old) ≤ 2 ^ 60 }
+        ensures obeys { IfOk result (λ t. Obeys self.old self.new (gated_continue steps) (line_text t)) }
+        ensures room { IfOk result HasRoom }
+        ensures counted { IfOk result (λ t. count (host_of self.new) ≤ count (host_of self.old) + steps) }
+        ensures led { IfOk result (λ t. IsLed self.old self.new) }
+    {
+        match standing_of(&self.hosting) {
+            Standing::Nobody => Ok(LineText::Fixed("refused no activity")),
+            Standing::Goes => self.go_to(alloc, steps),
+            Standing::Ended => Ok(LineText::Fixed("refused ended")),
+        }
+    }
+
+    /// A command that is built, and its line. After want of memory in a run the session can't go on.
+    pub fn obey(
+        &mut self,
+        alloc: Global,
+        command: &Command,
+    ) -> Result<LineText<'static>, OutOfMemory>
+        requires shows { IsShown self.old }
+        requires counted { count (host_of self.old) ≤ 2 ^ 60 }
+        requires built { is_built command.now ≡ true }
+        ensures obeys { IfOk result (λ t. Obeys self.old self.new (obeyed command.now) (line_text t)) }
+        ensures room { IfOk result HasRoom }
+        ensures counted { IfOk result (λ t. count (host_of self.new) ≤ count (host_of self.old) + 1000000000) }
+        ensures led { IfOk result (λ t. IsLed self.old self.new) }
+    {
+        match command {
+            Command::Spawn(name) => self.spawn(alloc, name.as_slice()),
+            Command::Run(steps) => self.run(alloc, *steps),
+            Command::Continue(steps) => self.continue_to(alloc, *steps),
+            Command::Step => self.run(alloc, 1),
+            Command::Interrupt(steps) => self.run(alloc, *steps),
+            _ => unreachable!(),
+        }
+    }
+}
