@@ -1,5 +1,5 @@
 -- How machine and host come about between commands.
-use Rattle.std.proofs.Common.{◌≡◌, ℕ, ◌-◌, List, [], Result, Ok, Err, OnOk, ◌∙◌, ap, sym, subst}
+use Rattle.std.proofs.Common.{◌≡◌, ℕ, ◌+◌, ◌-◌, List, [], ◌∙◌, ap, sym, subst, arith}
 use Rattle.std.specs.Prelude.{true, Some, length, slice_get}
 use Rattle.self_terms.specs.declared.values.BodyId.{BodyId}
 use Rattle.self_terms.specs.declared.values.Value.TheVariants as values
@@ -26,19 +26,24 @@ use Rattle.plain_births.proofs.Units.{units_rest}
 use Rattle.plain_core.specs.Leading.{Leads, Stays, Runs, Puts, Begins}
 use Rattle.plain_core.specs.Running.{HasRunOn}
 use Rattle.plain_core.specs.Spawning.{IsReady}
+use Rattle.plain_core.specs.declared.running.Counts.{Counts}
 use Rattle.plain_core.proofs.Births.{IsFound, is_put}
 
+pub counted_as : (room : ℕ) (h to : Host) (i j v w : ℕ) → i ≡ j → v ≡ w → Leads room h i v to → Leads room h j w to
+counted_as room h to i j v w e f r = subst (λ (k : ℕ). Leads room h k w to) e (subst (λ (k : ℕ). Leads room h i k to) f r)
+
 -- one after the other
-pub leads_on : (room : ℕ) (a b c : Host) → Leads room a b → Leads room b c → Leads room a c
-leads_on room a b c first Stays = first
-leads_on room a b c first (Runs g to i v before reached) = Runs g to i v (leads_on room a b g first before) reached
-leads_on room a b c first (Puts g k memory before put) = Puts g k memory (leads_on room a b g first before) put
-leads_on room a b c first (Begins g lobby holder at name k before is found unit some) = Begins g lobby holder at name k (leads_on room a b g first before) is found unit some
+pub leads_on : (room : ℕ) (a b c : Host) (i v j w : ℕ) → Leads room a i v b → Leads room b j w c → Leads room a (i + j) (v + w) c
+leads_on room a b c i v j w first Stays = counted_as room a b i (i + 0) v (v + 0) (omega arith) (omega arith) first
+leads_on room a b c i v j w first (Runs k u more served g to before reached) =
+    counted_as room a to ((i + k) + more) (i + (k + more)) ((v + u) + served) (v + (u + served)) (omega arith) (omega arith) (Runs (i + k) (v + u) more served g to (leads_on room a b g i v k u first before) reached)
+leads_on room a b c i v j w first (Puts k u g x memory before put) = Puts (i + k) (v + u) g x memory (leads_on room a b g i v k u first before) put
+leads_on room a b c i v j w first (Begins k u g lobby holder at name x before is found unit some) = Begins (i + k) (v + u) g lobby holder at name x (leads_on room a b g i v k u first before) is found unit some
 
 -- A run.
-pub run_leads : {A E : Type 0} (r : Result A E) (room n : ℕ) (h to : Host) → OnOk r (HasRunOn room n h to) → OnOk r (Leads room h to)
-run_leads (Ok a) room n h to ran = Runs h to ran.reached.0 ran.reached.1 Stays ran.reached.2
-run_leads (Err e) room n h to ran = tt
+pub run_leads : (room n : ℕ) (c : Counts) (h to : Host) → HasRunOn room n c h to → Leads room h c.instructions c.services to
+run_leads room n c h to ran =
+    counted_as room h to (0 + c.instructions) c.instructions (0 + c.services) c.services (omega arith) (omega arith) (Runs 0 0 c.instructions c.services h to Stays ran.reached)
 
 -- The lobby's lookup reads no words that a unit changes.
 module _ (h : Host) (s : State) (c : ℕ) (memory : Words) (r : Rests h s) (put : IsPut h c memory) (built : is_blockless (body_in h.bodies c) ≡ true) where
@@ -56,19 +61,19 @@ module _ (h mid : Host) (s : State) (c : BodyId) (r : Rests h s) (m : IsFound h 
     put : IsPut h c.0 mid.machine.memory
     put = is_put h mid s c r m none built code apart whole
 
-    pub put_leads : (room : ℕ) → Leads room h mid
+    pub put_leads : (room : ℕ) → Leads room h 0 0 mid
     put_leads room =
-        let P : Host → Type 0 = λ y. Leads room h y in
-        subst P (sym is) (Puts h c.0 mid.machine.memory Stays put)
+        let P : Host → Type 0 = λ y. Leads room h 0 0 y in
+        subst P (sym is) (Puts 0 0 h c.0 mid.machine.memory Stays put)
 
     pub put_finds : (room lobby name holder : ℕ) → slice_get h.references.objects 0 ≡ Some lobby → lobby_finds room h lobby name ≡ One holder (MethodKind c) → lobby_finds room mid lobby name ≡ One holder (MethodKind c)
     put_finds room lobby name holder known found =
         ap (λ (y : Host). lobby_finds room y lobby name) is ∙ found_same h s c.0 mid.machine.memory r put built lobby name room known ∙ found
 
 -- The activity begins.
-pub begin_leads : (h mid to : Host) (lobby room name holder at : ℕ) (c : BodyId) → slice_get h.references.objects 0 ≡ Some lobby → IsReady h mid c.0 at → Leads room h mid → lobby_finds room mid lobby name ≡ One holder (MethodKind c)
-    → to ≡ begins c.0 at lobby holder mid → Leads room h to
+pub begin_leads : (h mid to : Host) (lobby room name holder at : ℕ) (c : BodyId) → slice_get h.references.objects 0 ≡ Some lobby → IsReady h mid c.0 at → Leads room h 0 0 mid → lobby_finds room mid lobby name ≡ One holder (MethodKind c)
+    → to ≡ begins c.0 at lobby holder mid → Leads room h 0 0 to
 begin_leads h mid to lobby room name holder at c is ready led finds begun =
-    let P : Host → Type 0 = λ y. Leads room h y in
+    let P : Host → Type 0 = λ y. Leads room h 0 0 y in
     let known : slice_get mid.references.objects 0 ≡ Some lobby = ap (λ y. slice_get y.objects 0) ready.references ∙ is in
-    subst P (sym begun) (Begins mid lobby holder at name c led known finds ready.unit ready.some)
+    subst P (sym begun) (Begins 0 0 mid lobby holder at name c led known finds ready.unit ready.some)

@@ -1,15 +1,15 @@
 -- What the calls inside a run do. Used by contracts of private functions alone.
-use Rattle.std.specs.Prelude.{◌≡◌, ℕ, suc, ◌+◌, ◌-◌, ◌<◌, ◌≤◌, Option, Some, None}
+use Rattle.std.specs.Prelude.{◌≡◌, ℕ, suc, ◌+◌, ◌-◌, ◌^◌, ◌<◌, ◌≤◌, Option, Some, None}
 use Rattle.source_model.specs.State.{State}
 use Rattle.plain_words.specs.Going.{Goes}
 use Rattle.plain_runs.specs.Host.{Host}
 use Rattle.plain_runs.specs.Course.{with_machine}
 use Rattle.plain_turns.specs.Asking.{count}
-use Rattle.plain_turns.specs.Events.{Serves}
+use Rattle.plain_turns.specs.Events.{Serves, Reaches}
 use Rattle.plain_turns.specs.Resting.{IsGoing, IsAtTrap, HasRun}
 use Rattle.plain_turns.specs.Rooms.{unmade}
 use Rattle.plain_turns.specs.Turns.{StepsOn, BeginsAgain}
-use Rattle.plain_core.specs.Running.{IsReached}
+use Rattle.plain_core.specs.declared.turning.Passed.{Passed}
 use Rattle.plain_core.specs.declared.turning.Turn.{Turn}
 use Rattle.plain_core.specs.declared.turning.Turn.TheVariants as turns
 
@@ -25,9 +25,8 @@ pub record Came (h to : Host) (trap : ℕ) (from : State) (target : ℕ) (g : Is
   pub at : IsAtTrap to trap from target
   pub counts : g.state.steps + g.stretch.steps ≤ count to
 
--- by instructions alone
-pub record Went (h to : Host) : Type 0 where
-  pub instructions : ℕ
+-- by so many instructions alone
+pub record Went (h to : Host) (instructions : ℕ) : Type 0 where
   pub goes : Goes instructions h.machine to.machine
   pub is : to ≡ with_machine h to.machine
 
@@ -56,12 +55,13 @@ abbrev pub IsLess : ℕ → Host → Host → Option ℕ → Type 0
 IsLess target h to (Some trap) = far target to < far target h
 IsLess target h to None = Unit {0}
 
--- A turn: a service and the instructions to the next trap, where the run hasn't ended.
-pub record TurnsOn (room trap : ℕ) (h to : Host) (target : ℕ) (next : Option ℕ) : Type 0 where
-  pub reached : IsReached room h to
+-- A turn: one service, and the instructions to the next trap, where the run hasn't ended.
+pub record TurnsOn (room trap : ℕ) (h to : Host) (target : ℕ) (p : Passed) : Type 0 where
+  pub reached : Reaches room h p.instructions 1 to
+  pub few : p.instructions ≤ 2 ^ 40
   pub objects : to.next ≡ h.next
-  pub at : (from : State) → IsAtTrap h trap from target → Next to from target next
-  pub less : IsLess target h to next
+  pub at : (from : State) → IsAtTrap h trap from target → Next to from target p.next
+  pub less : IsLess target h to p.next
 
 -- how far a run may still go, with the trap at which it stands
 abbrev pub still : ℕ → Host → Option ℕ → ℕ

@@ -60,7 +60,7 @@ fn unit_at(
     requires found { lobby_finds _walk.now (host hosting.old) _lobby _name.0 ≡ One _holder (Method body) }
     requires plain { is_blockless (body_in (host hosting.old).bodies body.0) ≡ true }
     ensures ready { IfOk result (λ at. IsReady (host hosting.old) (host hosting.new) body.0 at) }
-    ensures led { OnOk result (Leads _walk.now (host hosting.old) (host hosting.new)) }
+    ensures led { OnOk result (Leads _walk.now (host hosting.old) 0 0 (host hosting.new)) }
     ensures finds { OnOk result (lobby_finds _walk.now (host hosting.new) _lobby _name.0 ≡ One _holder (Method body)) }
     ensures same { OnErr result (host hosting.new ≡ host hosting.old) }
 {
@@ -92,7 +92,7 @@ fn begin(
     requires found { lobby_finds walk.now (host hosting.old) lobby name.0 ≡ One holder (Method body) }
     requires plain { is_blockless (body_in (host hosting.old).bodies body.0) ≡ true }
     ensures born { IfOk result (λ b. IsBirth (host hosting.old) (host hosting.new) name.0 b) }
-    ensures led { IfOk result (λ b. Leads walk.now (host hosting.old) (host hosting.new)) }
+    ensures led { IfOk result (λ b. Leads walk.now (host hosting.old) 0 0 (host hosting.new)) }
     ensures objects { OnOk result ((host hosting.new).next ≡ (host hosting.old).next) }
     ensures same { OnErr result (host hosting.new ≡ host hosting.old) }
 {
@@ -117,7 +117,7 @@ fn enter(
     requires lobby { slice_get (host hosting.old).references.objects 0 ≡ Some lobby }
     requires found { lobby_finds walk.now (host hosting.old) lobby name.0 ≡ One holder (Method body) }
     ensures born { IfOk result (λ b. IsBirth (host hosting.old) (host hosting.new) name.0 b) }
-    ensures led { IfOk result (λ b. Leads walk.now (host hosting.old) (host hosting.new)) }
+    ensures led { IfOk result (λ b. Leads walk.now (host hosting.old) 0 0 (host hosting.new)) }
     ensures objects { OnOk result ((host hosting.new).next ≡ (host hosting.old).next) }
     ensures same { OnErr result (host hosting.new ≡ host hosting.old) }
 {
@@ -142,7 +142,7 @@ fn meet(
     requires lobby { slice_get (host hosting.old).references.objects 0 ≡ Some lobby }
     requires found { lobby_finds walk.now (host hosting.old) lobby name.0 ≡ found }
     ensures born { IfOk result (λ b. IsBirth (host hosting.old) (host hosting.new) name.0 b) }
-    ensures led { IfOk result (λ b. Leads walk.now (host hosting.old) (host hosting.new)) }
+    ensures led { IfOk result (λ b. Leads walk.now (host hosting.old) 0 0 (host hosting.new)) }
     ensures objects { OnOk result ((host hosting.new).next ≡ (host hosting.old).next) }
     ensures same { OnErr result (host hosting.new ≡ host hosting.old) }
 {
@@ -171,7 +171,7 @@ pub fn spawn(
     requires rests { CanSpawn (host hosting.old) }
     requires room { (host hosting.old).next ≤ walk.old }
     ensures born { IfOk result (λ b. IsBirth (host hosting.old) (host hosting.new) name.0 b) }
-    ensures led { IfOk result (λ b. Leads walk.old (host hosting.old) (host hosting.new)) }
+    ensures led { IfOk result (λ b. Leads walk.old (host hosting.old) 0 0 (host hosting.new)) }
     ensures objects { OnOk result ((host hosting.new).next ≡ (host hosting.old).next) }
     ensures unchanged { OnErr result (host hosting.new ≡ host hosting.old) }
     ensures same { walk.new ≡ walk.old }

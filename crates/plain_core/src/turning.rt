@@ -39,14 +39,33 @@ pub(crate) enum Turn {
     Ended,
 }
 
-// The words go on to a trap, whose number this is.
-pub(crate) fn go(hosting: &mut Hosting, _target: u64) -> u8
+/// The words have come to a trap, by so many instructions.
+#[derive(Drop)]
+pub(crate) struct Arrival {
+    pub trap: u8,
+    pub instructions: u64,
+}
+
+/// A turn was taken: the trap at which the run then stands, or none where it has ended; and the instructions to there.
+#[derive(Drop)]
+pub(crate) struct Passed {
+    pub next: Option<u8>,
+    pub instructions: u64,
+}
+
+// The words go on to a trap.
+pub(crate) fn go(hosting: &mut Hosting, _target: u64) -> Arrival
     requires { CanGoOn (host hosting.old) _target }
-    ensures came { (from : State) → (g : IsGoing (host hosting.old) from _target) → Came (host hosting.old) (host hosting.new) result from _target g }
-    ensures went { Went (host hosting.old) (host hosting.new) }
+    ensures came { (from : State) → (g : IsGoing (host hosting.old) from _target) → Came (host hosting.old) (host hosting.new) result.trap from _target g }
+    ensures went { Went (host hosting.old) (host hosting.new) result.instructions }
+    ensures few { result.instructions ≤ 2 ^ 40 }
 {
-    match hosting.run(MOST).event {
-        Event::Trap(number) => number,
+    let told = hosting.run(MOST);
+    match told.event {
+        Event::Trap(trap) => Arrival {
+            trap,
+            instructions: told.taken,
+        },
         Event::Went => unreachable!(),
     }
 }
@@ -546,22 +565,31 @@ fn serve(
     }
 }
 
-// A turn: the service of a trap, and the words from there to the next; none where the run has ended.
+// A turn: the service of a trap, and the words from there to the next, where the run hasn't ended.
 pub(crate) fn take_turn(
     hosting: &mut Hosting,
     alloc: Global,
     walk: &mut Walk,
     trap: u8,
     target: u64,
-) -> Result<Option<u8>, OutOfMemory>
+) -> Result<Passed, OutOfMemory>
     requires at { StandsAt (host hosting.old) trap target }
     requires small { target ≤ 2 ^ 61 }
     requires room { (host hosting.old).next ≤ walk.old }
-    ensures on { IfOk result (λ next. TurnsOn walk.old trap (host hosting.old) (host hosting.new) target next) }
+    ensures on { IfOk result (λ p. TurnsOn walk.old trap (host hosting.old) (host hosting.new) target p) }
     ensures same { walk.new ≡ walk.old }
 {
     match serve(hosting, alloc, walk, trap, target)? {
-        Turn::On => Ok(Some(go(hosting, target))),
-        Turn::Ended => Ok(None),
+        Turn::On => {
+            let came = go(hosting, target);
+            Ok(Passed {
+                next: Some(came.trap),
+                instructions: came.instructions,
+            })
+        }
+        Turn::Ended => Ok(Passed {
+            next: None,
+            instructions: 0,
+        }),
     }
 }

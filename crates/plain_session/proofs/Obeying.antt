@@ -1,5 +1,5 @@
 -- Commands obeyed.
-use Rattle.std.proofs.Common.{◌≡◌, ◌≢◌, ◌⊎◌, ℕ, zero, suc, ◌+◌, ◌-◌, ◌<◌, ◌≤◌, refl, ◌∙◌, ap, sym, subst, arith, inl, inr}
+use Rattle.std.proofs.Common.{◌≡◌, ◌≢◌, ℕ, zero, suc, ◌+◌, ◌-◌, ◌^◌, ◌<◌, ◌≤◌, refl, ◌∙◌, ap, sym, subst, arith, inl, inr}
 use Rattle.std.specs.Prelude.{◌++◌, nat_le, if◌then◌else◌, List, [], ◌∷◌, length, Option, Some, None, Result, Ok, Err, IfOk, OnErr, slice_get, codes}
 use Rattle.std.proofs.lemmas.Bool.{cond-true, cond-false, le-leb, lt-leb}
 use Rattle.std.proofs.lemmas.Option.{slice_get_within}
@@ -11,11 +11,11 @@ use Rattle.source_model.specs.declared.objects.Core.{Core}
 use Rattle.source_model.specs.Formed.{arity}
 use Rattle.source_model.specs.Lines.{line, activity_line, run_line}
 use Rattle.source_model.specs.Names.{number_of}
-use Rattle.source_model.specs.Script.{refused, over, becomes, with_run_line}
+use Rattle.source_model.specs.Script.{refused, over, with_run_line}
 use Rattle.source_model.specs.State.{Activation, Activity, Running, Answered, Failed, State, Reached, silent}
 use Rattle.source_model.specs.Texts.{error_text}
 use Rattle.plain_host.specs.Hosted.{Hosted, host}
-use Rattle.plain_runs.specs.Host.{Host, raw_of}
+use Rattle.plain_runs.specs.Host.{Host}
 use Rattle.plain_runs.specs.declared.status.Status.{Status}
 use Rattle.plain_begins.proofs.Starting.{activities_agree}
 use Rattle.plain_stretches.specs.Gate.{gated_run}
@@ -23,17 +23,18 @@ use Rattle.plain_turns.specs.Asking.{count}
 use Rattle.plain_turns.specs.Resting.{Rests, HasRun}
 use Rattle.plain_births.specs.Meeting.{message}
 use Rattle.plain_core.specs.Gated.{gated_spawn, gated_steps}
+use Rattle.plain_core.specs.Leading.{Leads, Stays}
 use Rattle.plain_core.specs.Running.{HasRunOn}
 use Rattle.plain_core.specs.Spawning.{IsBirth, IsRefused, HasBegun, Comes}
+use Rattle.plain_core.specs.declared.running.Counts.{Counts}
 use Rattle.plain_core.specs.declared.spawning.Birth.{Birth}
 use Rattle.plain_core.specs.declared.spawning.Birth.TheVariants.{Begun, Missing, NotAMethod, TooMany, NotBuilt}
 use Rattle.run_lines.specs.Standing.{IsStanding, GoesOn}
-use Rattle.run_lines.specs.declared.current.Standing.{Standing}
 use Rattle.run_lines.specs.declared.current.Standing.TheVariants as standings
 use Rattle.session_text.specs.declared.commands.Command.{Command}
 use Rattle.session_text.specs.declared.commands.Command.TheVariants as commands
 use Rattle.plain_session.specs.Commands.{obeyed, gated_continue}
-use Rattle.plain_session.specs.Sessions.{Session, host_of, Shows, IsShown, Obeys, birth_text}
+use Rattle.plain_session.specs.Sessions.{Session, host_of, Shows, IsShown, Obeys, IsLed, CountsFew, birth_text}
 use Rattle.plain_session.proofs.Gated.{RunsOn, run_remains, run_from}
 use Rattle.plain_session.proofs.Keeping.{gated_spawn_keeps}
 
@@ -110,7 +111,7 @@ ended_obeys x n is q sh = elim (is q.state sh.rests) [
   | inr f ↦ refused_obeys x n (codes "ended") q sh (over_failed n q f.0 f.1 f.2)
 ]
 
-module _ (x y : Session) (n : ℕ) (names : y.names ≡ x.names) (core : y.core ≡ x.core) (room : (host_of y).next ≤ y.room) (ran : HasRunOn x.room n (host_of x) (host_of y)) where
+module _ (x y : Session) (n : ℕ) (names : y.names ≡ x.names) (core : y.core ≡ x.core) (room : (host_of y).next ≤ y.room) (k : Counts) (ran : HasRunOn x.room n k (host_of x) (host_of y)) where
   module _ (q : Reached) (sh : Shows x q.state) where
     pub has : HasRun (host_of y) q.state (q.state.steps + n)
     has = ran.runs q.state sh.rests
@@ -213,20 +214,20 @@ ended_continues x n is q sh = elim (is q.state sh.rests) [
 
 -- A session's parts before and behind a call.
 
-abbrev pub of_parts : Hosted → ℕ → List (List ℕ) → Core → Session
-of_parts hosted room names core = record { hosted = hosted; room = room; names = names; core = core }
+abbrev pub of_parts : Hosted → ℕ → List (List ℕ) → Core → ℕ → ℕ → Session
+of_parts hosted room names core instructions services = record { hosted = hosted; room = room; names = names; core = core; instructions = instructions; services = services }
 
 none_beyond : (xs : List Status) (k : ℕ) → slice_get xs k ≡ None → length xs ≤ k
 none_beyond [] k e = omega arith
 none_beyond (y ∷ ys) zero e = absurd (cc)
 none_beyond (y ∷ ys) (suc k) e = omega (arith, none_beyond ys k e)
 
-module _ (x : Session) (old new : Hosted) (room after : ℕ) (names : List (List ℕ)) (core : Core) (is : of_parts old room names core ≡ x) (same : after ≡ room) (shown : IsShown x) where
+module _ (x : Session) (old new : Hosted) (room after : ℕ) (names : List (List ℕ)) (core : Core) (i v j w : ℕ) (is : of_parts old room names core i v ≡ x) (same : after ≡ room) (shown : IsShown x) where
   abbrev before : Session
-  before = of_parts old room names core
+  before = of_parts old room names core i v
 
   abbrev now : Session
-  now = of_parts new after names core
+  now = of_parts new after names core j w
 
   shown_before : IsShown before
   shown_before = subst IsShown (sym is) shown
@@ -255,34 +256,48 @@ module _ (x : Session) (old new : Hosted) (room after : ℕ) (names : List (List
         counts_as (host new) (gated_spawn name (silent shown_before.0)).state spawned_shows.rests
         ∙ (gated_spawn_keeps (silent shown_before.0) name).2 ∙ sym (counts_as (host old) shown_before.0 shown_before.1.rests) ∙ ap (λ z. count (host_of z)) is
 
-  module _ (n : ℕ) (ran : HasRunOn room n (host old) (host new)) (roomy : (host new).next ≤ room) where
+  pub are_led : (n m : ℕ) → Leads room (host old) n m (host new) → j ≡ i + n → w ≡ v + m → IsLed x now
+  are_led n m leads e f = subst (λ (z : Session). IsLed z now) is (record { instructions = n; services = m; leads = leads; done = e; served = f; room = same })
+
+  pub are_few : (n m : ℕ) → j ≡ i + n → w ≡ v + m → n ≤ 2 ^ 70 → m ≤ 2 ^ 30 → CountsFew x now
+  are_few n m e f le lt = subst (λ (z : Session). CountsFew z now) is (record { instructions = omega (arith, e, le); services = omega (arith, f, lt) })
+
+  module _ (n : ℕ) (k : Counts) (ran : HasRunOn room n k (host old) (host new)) (roomy : (host new).next ≤ room) where
     has_room : (host new).next ≤ after
     has_room = omega (arith, roomy, same)
 
-    went_shows : Shows now (has before now n refl refl has_room ran (silent shown_before.0) shown_before.1).state
-    went_shows = shows_run before now n refl refl has_room ran (silent shown_before.0) shown_before.1
+    went_shows : Shows now (has before now n refl refl has_room k ran (silent shown_before.0) shown_before.1).state
+    went_shows = shows_run before now n refl refl has_room k ran (silent shown_before.0) shown_before.1
 
     pub went_rests : (s : State) × Rests (host new) s × (s.core ≡ core)
-    went_rests = ((has before now n refl refl has_room ran (silent shown_before.0) shown_before.1).state, went_shows.rests, went_shows.core)
+    went_rests = ((has before now n refl refl has_room k ran (silent shown_before.0) shown_before.1).state, went_shows.rests, went_shows.core)
 
     pub went_counts : count (host new) ≤ count (host_of x) + n
     went_counts =
-        let few = counts_few before now n refl refl has_room ran (silent shown_before.0) shown_before.1 in
+        let few = counts_few before now n refl refl has_room k ran (silent shown_before.0) shown_before.1 in
         subst (λ (z : Session). count (host new) ≤ count (host_of z) + n) is few
 
     pub went_there : GoesOn (host_of x) → slice_get (host new).statuses (host new).current ≢ None
     went_there goes e =
-        let there = current_there before now n refl refl has_room ran (silent shown_before.0) shown_before.1 (subst (λ (z : Session). GoesOn (host_of z)) (sym is) goes) in
+        let there = current_there before now n refl refl has_room k ran (silent shown_before.0) shown_before.1 (subst (λ (z : Session). GoesOn (host_of z)) (sym is) goes) in
         let beyond = none_beyond (host new).statuses (host new).current e in
         omega (arith, there, beyond)
 
     pub went_obeys : (text : List ℕ) → ((s : State) → Rests (host_of x) s → IsStanding s standings.Goes) → ((s : State) → Rests (host new) s → s.core ≡ core → text ≡ run_line s) → Obeys x now (gated_steps n) text
     went_obeys text goes says =
         let Q : Session → Type 0 = λ z. Obeys z now (gated_steps n) text in
-        subst Q is (run_obeyed before now n refl refl has_room ran text (λ s r. goes s (subst (λ (z : Session). Rests (host_of z) s) is r)) says)
+        subst Q is (run_obeyed before now n refl refl has_room k ran text (λ s r. goes s (subst (λ (z : Session). Rests (host_of z) s) is r)) says)
 
-pub rests_inside : (x : Session) (old : Hosted) (room : ℕ) (names : List (List ℕ)) (core : Core) → of_parts old room names core ≡ x → (s : State) → Rests (host_of x) s → Rests (host old) s
-rests_inside x old room names core is s r = subst (λ (z : Session). Rests (host_of z) s) (sym is) r
+pub rests_inside : (x : Session) (old : Hosted) (room : ℕ) (names : List (List ℕ)) (core : Core) (i v : ℕ) → of_parts old room names core i v ≡ x → (s : State) → Rests (host_of x) s → Rests (host old) s
+rests_inside x old room names core i v is s r = subst (λ (z : Session). Rests (host_of z) s) (sym is) r
+
+-- Nothing was done.
+
+pub stays_led : (x : Session) → IsLed x x
+stays_led x = record { instructions = 0; services = 0; leads = Stays; done = omega arith; served = omega arith; room = refl }
+
+pub stays_few : (x : Session) → CountsFew x x
+stays_few x = record { instructions = omega arith; services = omega arith }
 
 pub on_err : {T E : Type 0} (r : Result T E) (P : Type 0) → P → OnErr r P
 on_err (Ok v) P p = tt

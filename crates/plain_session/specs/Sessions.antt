@@ -1,5 +1,5 @@
 -- A session over a world.
-use Rattle.std.specs.Prelude.{◌≡◌, ℕ, ◌+◌, ◌≤◌, ◌++◌, List, codes}
+use Rattle.std.specs.Prelude.{◌≡◌, ℕ, ◌+◌, ◌^◌, ◌≤◌, ◌++◌, List, codes}
 use Rattle.source_model.specs.declared.objects.Core.{Core}
 use Rattle.source_model.specs.State.{State, Reached}
 use Rattle.plain_host.specs.Hosted.{Hosted, host}
@@ -11,12 +11,15 @@ use Rattle.plain_core.specs.Leading.{Leads}
 use Rattle.plain_core.specs.declared.spawning.Birth.{Birth}
 use Rattle.plain_core.specs.declared.spawning.Birth.TheVariants.{Begun, Missing, NotAMethod, TooMany, NotBuilt}
 
--- What it holds: machine and host; room for walks over so many objects; the texts of its names; the objects that the language itself knows.
+-- What it holds: machine and host; room for walks over so many objects; the texts of its names; the objects that the language itself knows; and how
+-- many instructions its machine has done, and how many services its host has given.
 pub record Session : Type 0 where
   pub hosted : Hosted
   pub room : ℕ
   pub names : List (List ℕ)
   pub core : Core
+  pub instructions : ℕ
+  pub services : ℕ
 
 -- its machine and host
 abbrev pub host_of : Session → Host
@@ -36,10 +39,24 @@ IsShown x = (s : State) × Shows x s
 abbrev pub Obeys : Session → Session → (Reached → Reached) → List ℕ → Type 0
 Obeys x y does text = (q : Reached) → Shows x q.state → Shows y (does q).state × ((does q).out ≡ q.out ++ text)
 
--- Machine and host were reached by instructions and services alone, and the room for walks is as it was.
+-- Machine and host were reached by instructions and services alone, with as many of each as the counts rose, and the room for walks is as it was.
 pub record IsLed (x y : Session) : Type 0 where
-  pub leads : Leads x.room (host_of x) (host_of y)
+  pub instructions : ℕ
+  pub services : ℕ
+  pub leads : Leads x.room (host_of x) instructions services (host_of y)
+  pub done : y.instructions ≡ x.instructions + instructions
+  pub served : y.services ≡ x.services + services
   pub room : y.room ≡ x.room
+
+-- the counts have room for those of a run
+pub record CanCount (x : Session) : Type 0 where
+  pub instructions : x.instructions ≤ 2 ^ 126
+  pub services : x.services ≤ 2 ^ 62
+
+-- they rose by no more than those of a run
+pub record CountsFew (x y : Session) : Type 0 where
+  pub instructions : y.instructions ≤ x.instructions + 2 ^ 70
+  pub services : y.services ≤ x.services + 2 ^ 30
 
 -- the line of what a spawn came to, where machine and host are these then
 abbrev pub birth_text : Host → Birth → List ℕ

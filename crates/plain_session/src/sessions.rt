@@ -16,7 +16,7 @@ ghost use Rattle.source_model.specs.State.{State};
 ghost use Rattle.plain_turns.specs.Resting.{Rests};
 ghost use Rattle.world_state.specs.Begun.{begun};
 ghost use Rattle.plain_session.specs.Commands.{is_built, obeyed, gated_continue};
-ghost use Rattle.plain_session.specs.Sessions.{host_of, Shows, IsShown, Obeys, IsLed, birth_text};
+ghost use Rattle.plain_session.specs.Sessions.{host_of, Shows, IsShown, Obeys, IsLed, CanCount, CountsFew, birth_text};
 
 use plain_core::Birth;
 use plain_host::Hosting;
@@ -30,13 +30,16 @@ use std::marker::Model;
 use world_heap::WorldImage;
 use world_test::number_of;
 
-/// Machine and host of a world; room for walks over its objects; the texts of its names; the objects that the language itself knows.
+/// Machine and host of a world; room for walks over its objects; the texts of its names; the objects that the language itself knows; and how many
+/// instructions the machine has done, and how many services the host has given.
 #[derive(Drop)]
 pub struct Session {
     hosting: Hosting,
     walk: Walk,
     names: Names,
     core: Core,
+    instructions: u128,
+    services: u64,
 }
 
 impl Model for Session {
@@ -45,7 +48,7 @@ impl Model for Session {
 
     ghost Value = { sessions.Session };
 
-    ghost view = { λ x. record { hosted = x.hosting; room = x.walk; names = x.names; core = x.core } };
+    ghost view = { λ x. record { hosted = x.hosting; room = x.walk; names = x.names; core = x.core; instructions = x.instructions; services = x.services } };
 
     ghost invariant = { λ x. length x.names ≤ 500000000 };
 }
@@ -104,6 +107,8 @@ impl Session {
         requires few { length names ≤ 500000000 }
         ensures shows { IfOk result (λ x. Shows x (begun image.world names 0)) }
         ensures idle { IfOk result (λ x. (host_of x).statuses ≡ []) }
+        ensures instructions { IfOk result (λ x. x.instructions ≡ 0) }
+        ensures services { IfOk result (λ x. x.services ≡ 0) }
     {
         let core = image.world().core();
         let hosting = plain_opens::open(alloc, image)?;
@@ -113,7 +118,23 @@ impl Session {
             walk,
             names,
             core,
+            instructions: 0,
+            services: 0,
         })
+    }
+
+    /// How many instructions its machine has done.
+    pub fn instructions(&self) -> u128
+        ensures { result ≡ self.now.instructions }
+    {
+        self.instructions
+    }
+
+    /// How many services its host has given.
+    pub fn services(&self) -> u64
+        ensures { result ≡ self.now.services }
+    {
+        self.services
     }
 
     /// The command `spawn` of a name that takes no arguments, and its line. After want of memory machine and host are as they were.
@@ -124,6 +145,7 @@ impl Session {
         ensures room { IfOk result HasRoom }
         ensures counted { IfOk result (λ t. count (host_of self.new) ≡ count (host_of self.old)) }
         ensures led { IfOk result (λ t. IsLed self.old self.new) }
+        ensures rose { IfOk result (λ t. CountsFew self.old self.new) }
         ensures unchanged { OnErr result (host_of self.new ≡ host_of self.old) }
     {
         let number = number_of(&self.names, name);
@@ -136,14 +158,18 @@ impl Session {
         requires shows { IsShown self.old }
         requires few { steps ≤ 1000000000 }
         requires counted { count (host_of self.old) ≤ 2 ^ 60 }
+        requires fits { CanCount self.old }
         requires goes { GoesOn (host_of self.old) }
         requires stands { (s : State) → Rests (host_of self.old) s → IsStanding s standings.Goes }
         ensures obeys { IfOk result (λ t. Obeys self.old self.new (gated_steps steps) (line_text t)) }
         ensures room { IfOk result HasRoom }
         ensures counted { IfOk result (λ t. count (host_of self.new) ≤ count (host_of self.old) + steps) }
         ensures led { IfOk result (λ t. IsLed self.old self.new) }
+        ensures rose { IfOk result (λ t. CountsFew self.old self.new) }
     {
-        plain_core::run(&mut self.hosting, alloc, &mut self.walk, steps)?;
+        let taken = plain_core::run(&mut self.hosting, alloc, &mut self.walk, steps)?;
+        self.instructions += taken.instructions;
+        self.services += taken.services;
         Ok(run_line(&self.hosting, self.core))
     }
 
@@ -152,10 +178,12 @@ impl Session {
         requires shows { IsShown self.old }
         requires few { steps ≤ 1000000000 }
         requires counted { count (host_of self.old) ≤ 2 ^ 60 }
+        requires fits { CanCount self.old }
         ensures obeys { IfOk result (λ t. Obeys self.old self.new (gated_steps steps) (line_text t)) }
         ensures room { IfOk result HasRoom }
         ensures counted { IfOk result (λ t. count (host_of self.new) ≤ count (host_of self.old) + steps) }
         ensures led { IfOk result (λ t. IsLed self.old self.new) }
+        ensures rose { IfOk result (λ t. CountsFew self.old self.new) }
     {
         match standing_of(&self.hosting) {
             Standing::Nobody => Ok(LineText::Fixed("refused no activity")),
@@ -169,12 +197,14 @@ impl Session {
         requires shows { IsShown self.old }
         requires few { steps ≤ 1000000000 }
         requires counted { count (host_of self.old) ≤ 2 ^ 60 }
+        requires fits { CanCount self.old }
         requires goes { GoesOn (host_of self.old) }
         requires stands { (s : State) → Rests (host_of self.old) s → IsStanding s standings.Goes }
         ensures obeys { IfOk result (λ t. Obeys self.old self.new (gated_continue steps) (line_text t)) }
         ensures room { IfOk result HasRoom }
         ensures counted { IfOk result (λ t. count (host_of self.new) ≤ count (host_of self.old) + steps) }
         ensures led { IfOk result (λ t. IsLed self.old self.new) }
+        ensures rose { IfOk result (λ t. CountsFew self.old self.new) }
     {
         let done = self.hosting.steps();
         if done > steps as u64 {
@@ -192,10 +222,12 @@ impl Session {
         requires shows { IsShown self.old }
         requires few { steps ≤ 1000000000 }
         requires counted { count (host_of self.old) ≤ 2 ^ 60 }
+        requires fits { CanCount self.old }
         ensures obeys { IfOk result (λ t. Obeys self.old self.new (gated_continue steps) (line_text t)) }
         ensures room { IfOk result HasRoom }
         ensures counted { IfOk result (λ t. count (host_of self.new) ≤ count (host_of self.old) + steps) }
         ensures led { IfOk result (λ t. IsLed self.old self.new) }
+        ensures rose { IfOk result (λ t. CountsFew self.old self.new) }
     {
         match standing_of(&self.hosting) {
             Standing::Nobody => Ok(LineText::Fixed("refused no activity")),
@@ -212,11 +244,13 @@ impl Session {
     ) -> Result<LineText<'static>, OutOfMemory>
         requires shows { IsShown self.old }
         requires counted { count (host_of self.old) ≤ 2 ^ 60 }
+        requires fits { CanCount self.old }
         requires built { is_built command.now ≡ true }
         ensures obeys { IfOk result (λ t. Obeys self.old self.new (obeyed command.now) (line_text t)) }
         ensures room { IfOk result HasRoom }
         ensures counted { IfOk result (λ t. count (host_of self.new) ≤ count (host_of self.old) + 1000000000) }
         ensures led { IfOk result (λ t. IsLed self.old self.new) }
+        ensures rose { IfOk result (λ t. CountsFew self.old self.new) }
     {
         match command {
             Command::Spawn(name) => self.spawn(alloc, name.as_slice()),

@@ -6,7 +6,7 @@ use Rattle.io_ports.specs.Causes.{Takes, TakesFront}
 use Rattle.session_text.specs.declared.commands.Command.{Command}
 use Rattle.source_model.specs.State.{Reached, silent}
 use Rattle.plain_core.specs.Leading.{Leads, Stays}
-use Rattle.plain_core.proofs.Leading.{leads_on}
+use Rattle.plain_core.proofs.Leading.{counted_as, leads_on}
 use Rattle.plain_session.specs.Commands.{is_built, obeyed, all_obeyed, transcript}
 use Rattle.plain_session.specs.Sessions.{Session, host_of, Shows, IsLed}
 use Rattle.plain_session.proofs.Writing.{command_writes, commands_write}
@@ -30,17 +30,19 @@ then_led w x y a d = record {
   start = a.start;
   begun = a.begun;
   idle = a.idle;
-  leads = subst (λ k. Leads k a.start (host_of y)) (sym d.room) (leads_on x.room a.start (host_of x) (host_of y) a.leads d.leads);
+  leads =
+      let both = leads_on x.room a.start (host_of x) (host_of y) x.instructions x.services d.instructions d.services a.leads d.leads in
+      subst (λ k. Leads k a.start y.instructions y.services (host_of y)) (sym d.room) (counted_as x.room a.start (host_of y) (x.instructions + d.instructions) y.instructions (x.services + d.services) y.services (sym d.done) (sym d.served) both);
 }
 
 module _ (w : World) (cs : List Command) where
-  pub at_first : (x : Session) (old : Option (List ℕ)) → Shows x (begins w) → (host_of x).statuses ≡ [] → IsAmid w cs cs x old old
-  at_first x old sh idle = record {
+  pub at_first : (x : Session) (old : Option (List ℕ)) → Shows x (begins w) → (host_of x).statuses ≡ [] → x.instructions ≡ 0 → x.services ≡ 0 → IsAmid w cs cs x old old
+  at_first x old sh idle none unserved = record {
     reached = silent (begins w);
     shows = sh;
     took = takes_none old;
     left_is = refl;
-    led = record { start = host_of x; begun = sh.rests; idle = idle; leads = Stays };
+    led = record { start = host_of x; begun = sh.rests; idle = idle; leads = counted_as x.room (host_of x) (host_of x) 0 x.instructions 0 x.services (sym none) (sym unserved) Stays };
   }
 
   module _ (c : Command) (rest : List Command) (x y : Session) (old mid new : Option (List ℕ)) (a : IsAmid w cs (c ∷ rest) x old mid) where

@@ -43,15 +43,15 @@ HasReadFault words bytes_of file_failed script_failed =
     ((name : List ℕ) × NamesWorld words name × file_failed name)
     ⊎ ((name : List ℕ) × Asks words (RunWorld name) × script_failed × ((bytes : List ℕ) → bytes_of name ≡ Some bytes → IsAccepted bytes))
 
--- Machine and host were reached from where a session over the world begins.
+-- Machine and host were reached from where a session over the world begins, by as many instructions and services as the session has counted.
 pub record IsLedFrom (w : World) (session : Session) : Type 0 where
   pub start : Host
   pub begun : Rests start (begins w)
   pub idle : start.statuses ≡ []
-  pub leads : Leads session.room start (host_of session)
+  pub leads : Leads session.room start session.instructions session.services (host_of session)
 
 -- The session is what a run of the script over the world leaves: it shows the state that the script's commands come to; its machine and host were
--- reached, by instructions and services alone, from those that stand for the state with which a session over the world begins, without an activity.
+-- reached, by just as many instructions and services as it has counted, from those that stand for the state with which a session over the world begins, without an activity.
 pub record IsRun (w : World) (text : List ℕ) (session : Session) : Type 0 where
   pub commands : List Command
   pub asked : script text ≡ Ok commands

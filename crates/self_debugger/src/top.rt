@@ -6,7 +6,7 @@ ghost use Rattle.session_text.specs.Scripts.{script};
 ghost use Rattle.session_text.specs.LineTexts.{refused_line};
 ghost use Rattle.plain_turns.specs.Asking.{count};
 ghost use Rattle.plain_session.specs.Commands.{is_built, transcript};
-ghost use Rattle.plain_session.specs.Sessions.{host_of, IsShown};
+ghost use Rattle.plain_session.specs.Sessions.{host_of, IsShown, CanCount, CountsFew};
 ghost use Rattle.self_debugger.specs.declared.top.Stop.TheVariants.{OutOfMemory, Write};
 ghost use Rattle.self_debugger.specs.Words.{Asks, RunWorld};
 ghost use Rattle.self_debugger.specs.WorldLines.{ok_line};
@@ -371,10 +371,12 @@ fn obey<K: Sink>(
 ) -> Result<(), Stop>
     requires shown { IsShown session.old }
     requires counted { count (host_of session.old) ≤ 2 ^ 60 }
+    requires fits { CanCount session.old }
     requires built { is_built command.now ≡ true }
     ensures did { OnOk result (Did session.old session.new command.now (K.taken out.old) (K.taken out.new)) }
     ensures broke { OnErr result (Broke session.old session.new command.now (K.taken out.old) (K.taken out.new)) }
     ensures counted { OnOk result (count (host_of session.new) ≤ count (host_of session.old) + 1000000000) }
+    ensures rose { OnOk result (CountsFew session.old session.new) }
     ensures later { K.faults out.old ≤ K.faults out.new }
     ensures write { IsErrOf result Stop.Write → Rose (K.faults out.old) (K.faults out.new) }
 {

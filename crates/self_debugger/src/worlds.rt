@@ -59,6 +59,8 @@ pub fn session_over(alloc: Global, image: WorldImage) -> Result<Session, AllocEr
     ensures shows { IfOk result (λ x. Shows x (begins image.world)) }
     ensures idle { IfOk result (λ x. (host_of x).statuses ≡ []) }
     ensures counted { IfOk result (λ x. count (host_of x) ≡ 0) }
+    ensures instructions { IfOk result (λ x. x.instructions ≡ 0) }
+    ensures services { IfOk result (λ x. x.services ≡ 0) }
 {
     let names = session_names(alloc, image.world().names())?;
     Session::open(alloc, image, names)

@@ -1,5 +1,6 @@
+use Rattle.std.proofs.Common.{◌+◌}
 use Rattle.plain_host.specs.Hosted.{host}
-use Rattle.plain_core.proofs.Rounds.{both_ok, starts, has_run}
+use Rattle.plain_core.proofs.Rounds.{starts, has_run}
 use Rattle.plain_core.proofs.Leading.{run_leads}
 use Rattle.plain_core.proofs.running.run.Goals as goal
 
@@ -8,9 +9,8 @@ run_to-requires-clause-at c = (c.requires.rests.state, starts (host c.args.hosti
 
 pub returns-clause-ran : goal.returns-clause-ran
 returns-clause-ran c =
-    both_ok c.run_to.result _ _ _ c.run_to.ensures.runs c.run_to.ensures.reached
-    (λ runs reached. has_run (host c.args.hosting.now) (host c.go_back.new.self) (host c.run_to.new.hosting) c.args.walk.now c.args.steps _ c.steps.result c.requires.rests c.go_back.ensures c.steps.ensures c.requires.few runs reached)
+    has_run (host c.args.hosting.now) (host c.go_back.new.self) (host c.run_to.new.hosting) c.args.walk.now c.args.steps _ c.steps.result c.in_ok-taken.taken c.requires.rests c.go_back.ensures c.steps.ensures c.requires.few c.in_ok-taken.ensures.runs c.in_ok-taken.ensures.reached
 
 pub returns-clause-led : goal.returns-clause-led
 returns-clause-led c =
-    run_leads c.run_to.result c.args.walk.now c.args.steps (host c.args.hosting.now) (host c.run_to.new.hosting) (returns-clause-ran c)
+    run_leads c.args.walk.now c.args.steps (record { instructions = c.in_ok-taken.taken.instructions; services = c.in_ok-taken.taken.services + 1 }) (host c.args.hosting.now) (host c.run_to.new.hosting) (returns-clause-ran c)

@@ -5,13 +5,13 @@ use Rattle.plain_core.specs.declared.turning.Turn.{Turn}
 use Rattle.plain_core.proofs.Joining.{goes, turns_on, turns_end}
 use Rattle.plain_core.proofs.turning.take_turn.Goals as goal
 
-pub go-requires : goal.go-requires
-go-requires c = goes c.args.walk.now c.args.trap c.args.target (host c.args.hosting.now) (host c.serve.new.hosting) c.in_ok-serve.field-0 c.in-On.is c.requires.at c.in_ok-serve.ensures.served
+pub go-came-requires : goal.go-came-requires
+go-came-requires c = goes c.args.walk.now c.args.trap c.args.target (host c.args.hosting.now) (host c.serve.new.hosting) c.in_ok-serve.field-0 c.in-On.is c.requires.at c.in_ok-serve.ensures.served
 
 pub returns-in-On-clause-on : goal.returns-in-On-clause-on
 returns-in-On-clause-on c =
     let P : Turn → Type 0 = λ t. Served c.args.walk.now c.args.trap (host c.args.hosting.now) (host c.serve.new.hosting) c.args.target t in
-    turns_on c.args.walk.now c.args.trap c.args.target (host c.args.hosting.now) (host c.serve.new.hosting) (host c.go.new.hosting) c.go.result c.go.ensures.came c.go.ensures.went c.requires.at (subst P c.in-On.is c.in_ok-serve.ensures.served)
+    turns_on c.args.walk.now c.args.trap c.args.target (host c.args.hosting.now) (host c.serve.new.hosting) (host c.go-came.new.hosting) c.go-came.result.trap c.go-came.result.instructions c.go-came.ensures.came c.go-came.ensures.went c.go-came.ensures.few c.requires.at (subst P c.in-On.is c.in_ok-serve.ensures.served)
 
 pub returns-in-Ended-clause-on : goal.returns-in-Ended-clause-on
 returns-in-Ended-clause-on c = turns_end c.args.walk.now c.args.trap c.args.target (host c.args.hosting.now) (host c.serve.new.hosting) c.in_ok-serve.field-0 c.in-Ended.is c.in_ok-serve.ensures.served

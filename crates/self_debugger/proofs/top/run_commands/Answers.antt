@@ -16,7 +16,9 @@ returns-in_err-line-clause-front g c = on_err c.from_residual-in_err-line.result
 pub loop-at-init : goal.loop-at-init
 loop-at-init g c =
     let none = c.in_ok-session.ensures.counted in
-    record { amid = at_first c.args.image.world c.args.commands.now c.in_ok-session.session (g.K.Sink.taken c.args.out.now) c.in_ok-session.ensures.shows c.in_ok-session.ensures.idle; counted = omega (arith, none); later = omega arith }
+    let undone = c.in_ok-session.ensures.instructions in
+    let unserved = c.in_ok-session.ensures.services in
+    record { amid = at_first c.args.image.world c.args.commands.now c.in_ok-session.session (g.K.Sink.taken c.args.out.now) c.in_ok-session.ensures.shows c.in_ok-session.ensures.idle c.in_ok-session.ensures.instructions c.in_ok-session.ensures.services; counted = omega (arith, none); did = omega (arith, undone); served = omega (arith, unserved); later = omega arith }
 
 pub obey-requires-clause-built : goal.obey-requires-clause-built
 obey-requires-clause-built g c = built_at c.args.commands.now c.loop-at.at c.index-commands-at.result c.requires.built (there c.args.commands.now c.loop-at.at c.index-commands-at.result c.loop-at-test.true c.index-commands-at.is)
@@ -41,12 +43,19 @@ loop-at-preserved g c =
     let P : List Command → Type 0 = λ l. IsAmid w cs l c.loop-at.session old mid in
     let counted = c.loop-at.invariant.counted in
     let more = c.in_ok-obey.ensures.counted in
+    let did = c.loop-at.invariant.did in
+    let served = c.loop-at.invariant.served in
+    let rose = c.in_ok-obey.ensures.rose in
+    let more_done = rose.instructions in
+    let more_served = rose.services in
     let before = c.loop-at.invariant.later in
     let later = c.obey.ensures.later in
     record {
       amid = amid_next w cs c.index-commands-at.result (drop (c.loop-at.at + 1) cs) c.loop-at.session c.obey.new.session old mid (g.K.Sink.taken c.obey.new.out)
           (subst P (drop_there cs c.loop-at.at c.index-commands-at.result (there c.args.commands.now c.loop-at.at c.index-commands-at.result c.loop-at-test.true c.index-commands-at.is)) c.loop-at.invariant.amid) c.in_ok-obey.ensures.did;
       counted = omega (arith, counted, more);
+      did = omega (arith, did, more_done);
+      served = omega (arith, served, more_served);
       later = omega (arith, before, later);
     }
 
