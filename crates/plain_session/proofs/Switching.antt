@@ -31,7 +31,7 @@ pub none_switches : (x : Session) (n : ℕ) → n ≡ 0 → Obeys x x (switch n)
 none_switches x n e q sh = refused_is x n q sh (ap (λ k. switch k q) e)
 
 beyond_is : (k : ℕ) (q : Reached) → length q.state.activities ≤ k → switch (suc k) q ≡ refused (codes "no such activity") q
-beyond_is k q le = cond-false (nat_lt k (length q.state.activities)) _ _ (le-ltb (length q.state.activities) k le)
+beyond_is k q le = cond-false (nat_lt k (length q.state.activities)) _ _ (le-ltb k (length q.state.activities) le)
 
 by_number : (x : Session) (n : ℕ) (q : Reached) → Shows x q.state → length (host_of x).statuses < n → switch n q ≡ refused (codes "no such activity") q
 by_number x zero q sh lt = absurd (omega (arith, lt))
