@@ -14,7 +14,7 @@ use Rattle.sparc_store.specs.Chain.{ChangedIn}
 use Rattle.source_model.specs.Soundness.{body_in}
 use Rattle.frame_walk.specs.Places.{shown, plain_descriptor, holder_offset, local_offset}
 use Rattle.frame_walk.specs.Walk.{activations, AreLaid}
-use Rattle.frame_moves.proofs.Moving.{frame_own, others_stay}
+use Rattle.frame_moves.proofs.Moving.{frame_own, others_between, others_stay}
 use Rattle.plain_words.specs.Moves.{with_words}
 use Rattle.plain_words.specs.Translating.{CanTranslate}
 use Rattle.plain_words.specs.declared.references.References.{References}
@@ -23,8 +23,9 @@ use Rattle.plain_runs.specs.Host.{Host, descriptor_at, heap_words}
 use Rattle.plain_runs.specs.declared.status.Status.{Status}
 use Rattle.plain_runs.specs.declared.status.Status.TheVariants.{Waiting}
 use Rattle.plain_runs.specs.Services.{filled}
-use Rattle.plain_runs.specs.Sound.{IsHeld, entry_frame, ending_stub}
+use Rattle.plain_runs.specs.Sound.{IsHeld, CanTakeUp, entry_frame, ending_stub}
 use Rattle.plain_runs.specs.Course.{AllRun}
+use Rattle.plain_runs.proofs.Taking.{take_up_kept}
 use Rattle.plain_runs.proofs.Working.{heap_stays, held_have_room}
 use Rattle.plain_enters.specs.Entering.{largest_frame}
 use Rattle.plain_enters.proofs.Filling.{filled_shows}
@@ -145,3 +146,15 @@ module _ (h : Host) (memory : Words) (ss : List Status) (park : Parks h memory s
       (entry_place k (omega (arith, lt, long, room))) (other_entry k (length h.statuses) (λ e. (let bad : ⊥ = omega (arith, lt, long, e) in bad)))
       (frame_own (entry_frame (length h.statuses)) place (frame_words x) memory new first_there first_stack (fills (λ k. 0)).1)
       (park.laid k (Waiting sp pc count) is)
+
+  -- and may be taken up as they might
+  pub first_ready : (k sp pc count : ℕ) → slice_get ss k ≡ Some (Waiting sp pc count) → CanTakeUp h new k sp pc count
+  first_ready k sp pc count is =
+      let lt = slice_get_within ss k (Waiting sp pc count) is in
+      let long = park.long in
+      take_up_kept h (held_have_room h run) memory new k sp pc count
+      (others_between (descriptor_at h) (IsHeld h) (entry_frame (length h.statuses)) (entry_frame k) ending_stub memory new count sp (saved_at memory sp) pc [] (held_have_room h run)
+      (entry_place k (omega (arith, lt, long, room))) (other_entry k (length h.statuses) (λ e. (let bad : ⊥ = omega (arith, lt, long, e) in bad)))
+      (frame_own (entry_frame (length h.statuses)) place (frame_words x) memory new first_there first_stack (fills (λ k. 0)).1)
+      (park.laid k (Waiting sp pc count) is))
+      (park.ready k (Waiting sp pc count) is)

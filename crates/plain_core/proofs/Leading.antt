@@ -23,7 +23,7 @@ use Rattle.plain_stretches.specs.Gate.{is_blockless}
 use Rattle.plain_turns.specs.Resting.{Rests}
 use Rattle.plain_births.specs.Meeting.{lobby_finds}
 use Rattle.plain_births.proofs.Units.{units_rest}
-use Rattle.plain_core.specs.Leading.{Leads, Stays, Runs, Puts, Begins}
+use Rattle.plain_core.specs.Leading.{Leads, Stays, Runs, Puts, Begins, Switches}
 use Rattle.plain_core.specs.Running.{HasRunOn}
 use Rattle.plain_core.specs.Spawning.{IsReady}
 use Rattle.plain_core.specs.declared.running.Counts.{Counts}
@@ -39,6 +39,7 @@ leads_on room a b c i v j w first (Runs k u more served g to before reached) =
     counted_as room a to ((i + k) + more) (i + (k + more)) ((v + u) + served) (v + (u + served)) (omega arith) (omega arith) (Runs (i + k) (v + u) more served g to (leads_on room a b g i v k u first before) reached)
 leads_on room a b c i v j w first (Puts k u g x memory before put) = Puts (i + k) (v + u) g x memory (leads_on room a b g i v k u first before) put
 leads_on room a b c i v j w first (Begins k u g lobby holder at name x before is found unit some) = Begins (i + k) (v + u) g lobby holder at name x (leads_on room a b g i v k u first before) is found unit some
+leads_on room a b c i v j w first (Switches k u g x before there) = Switches (i + k) (v + u) g x (leads_on room a b g i v k u first before) there
 
 -- A run.
 pub run_leads : (room n : ℕ) (c : Counts) (h to : Host) → HasRunOn room n c h to → Leads room h c.instructions c.services to

@@ -10,13 +10,14 @@ use Rattle.sparc_machine.specs.State.{MachineState}
 use Rattle.source_model.specs.Soundness.{body_in}
 use Rattle.frame_walk.specs.Walk.{activations, AreLaid}
 use Rattle.frame_walk.proofs.Resting.{laid_as}
-use Rattle.frame_moves.proofs.Moving.{others_stay}
+use Rattle.frame_moves.proofs.Moving.{others_between, others_stay}
 use Rattle.plain_words.specs.Units.{frame_locals}
 use Rattle.plain_runs.specs.Host.{Host, descriptor_at}
 use Rattle.plain_runs.specs.declared.status.Status.TheVariants.{Waiting}
-use Rattle.plain_runs.specs.Sound.{IsWindow, IsHeld, IsHosted, entry_frame, ending_stub}
+use Rattle.plain_runs.specs.Sound.{IsWindow, IsHeld, CanTakeUp, IsHosted, entry_frame, ending_stub}
 use Rattle.plain_runs.specs.Course.{with_machine}
 use Rattle.plain_runs.proofs.Keeping.{SameCode, unit_kept, stub_kept, held_kept, OthersWait}
+use Rattle.plain_runs.proofs.Taking.{take_up_kept, take_up_on}
 use Rattle.plain_runs.proofs.Working.{held_have_room, same_descriptors}
 use Rattle.plain_evaluates.proofs.Called.{IsCalled, entry_place}
 use Rattle.plain_evaluates.proofs.Saved.{Shape, memory_after, after}
@@ -45,6 +46,15 @@ other_after h b n c at node q x long k sp pc count is ne =
     others_stay (descriptor_at h) (IsHeld h) (entry_frame h.current) (entry_frame k) ending_stub h.machine.memory (memory_after h c x) count sp pc (held_have_room h q.runs)
     (entry_place k (omega (arith, slice_get_within h.statuses k (Waiting sp pc count) is, q.hosted.activities))) (other_entry k h.current ne) (after h b n c at node q x long).own (q.hosted.others k sp pc count is ne)
 
+-- and may be taken up as they might
+taken_up_after : (h : Host) (b n c at : ℕ) (node : Node) → IsCalled h b n c at node → (x : Shape) → length x.locals ≡ frame_locals (body_in h.bodies c) → (k sp pc count : ℕ) → slice_get h.statuses k ≡ Some (Waiting sp pc count) → k ≢ h.current → CanTakeUp h (memory_after h c x) k sp pc count
+taken_up_after h b n c at node q x long k sp pc count is ne =
+    let held = held_have_room h q.runs in
+    take_up_kept h held h.machine.memory (memory_after h c x) k sp pc count
+    (others_between (descriptor_at h) (IsHeld h) (entry_frame h.current) (entry_frame k) ending_stub h.machine.memory (memory_after h c x) count sp (saved_at h.machine.memory sp) pc [] held
+    (entry_place k (omega (arith, slice_get_within h.statuses k (Waiting sp pc count) is, q.hosted.activities))) (other_entry k h.current ne) (after h b n c at node q x long).own (q.hosted.others k sp pc count is ne))
+    (q.hosted.parked k sp pc count is ne)
+
 pub waits_after : (h : Host) (b n c at : ℕ) (node : Node) → IsCalled h b n c at node → (x : Shape) → length x.locals ≡ frame_locals (body_in h.bodies c) → (to : MachineState) → HasEntered h c x to → OthersWait h (with_machine h to) 0 h.statuses
 waits_after h b n c at node q x long to e k sp pc count is ne =
     ap (λ d. activations d to.memory count sp (saved_at to.memory sp) pc []) (same_descriptors h to)
@@ -68,5 +78,7 @@ hosted_after h b n c at node q x long to e =
           let laid = (other_after h b n c at node q x long k sp pc count is ne).1 in
           let laid2 = laid_as (IsHeld h) (IsHeld h2) (entry_frame k) ending_stub new count sp (saved_at new sp) pc [] (λ u s f y. held_kept h to u s f low y) laid in
           (let P : Words → Type 0 = λ z. AreLaid (IsHeld h2) (entry_frame k) ending_stub z count sp (saved_at z sp) pc [] in subst P (sym e.memory_is) laid2);
+      parked = λ k sp pc count is ne.
+          (let P : Words → Type 0 = λ z. CanTakeUp h2 z k sp pc count in subst P (sym e.memory_is) (take_up_on h to low new k sp pc count (taken_up_after h b n c at node q x long k sp pc count is ne)));
       goal = omega (arith, goal_after h b n c at node q x long to e, q.hosted.goal);
     }

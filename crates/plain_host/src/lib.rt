@@ -10,6 +10,7 @@ mod hosting;
 mod opening;
 mod performing;
 mod services;
+mod switching;
 mod units;
 mod unwinding;
 

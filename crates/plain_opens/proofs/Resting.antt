@@ -63,6 +63,7 @@ module _ (i : Image) (memory : Words) (names : List (List ℕ)) (advisors : ℕ)
     stub = loaded.stub;
     activities = omega arith;
     others = λ k sp pc count is ne. cc;
+    parked = λ k sp pc count is ne. absurd (cc);
     goal = (let end = loaded.heap.is.laid.end in let top = end.within in let none = loaded.others 0x30000000 (λ e. absurd (omega (arith, e))) (inr (omega arith)) in omega (arith, none));
   }
 

@@ -9,6 +9,7 @@ use Rattle.plain_runs.specs.declared.status.Status.{Status}
 use Rattle.plain_runs.specs.declared.status.Status.TheVariants.{Waiting, Answered, Failed}
 use Rattle.plain_runs.specs.Units.{HasUnit}
 use Rattle.plain_runs.specs.Sound.{IsCaller, IsHeld, Calls, Polls, RunsAt, IsHosted, entry_frame, ending_stub}
+use Rattle.plain_runs.proofs.Taking.{take_up_as}
 
 abbrev pub renumbered : ℕ → ℕ → ℕ → Host → Host
 renumbered steps cost next h = record h { steps = steps; cost = cost; next = next }
@@ -61,6 +62,9 @@ hosted_as steps cost next h x = record {
   stub = x.stub;
   activities = x.activities;
   others = λ k sp pc n is ne. laid_as (IsHeld h) (IsHeld (renumbered steps cost next h)) (entry_frame k) ending_stub h.machine.memory n sp (saved_at h.machine.memory sp) pc [] (held_as steps cost next h) (x.others k sp pc n is ne);
+  parked = λ k sp pc n is ne.
+      take_up_as h (renumbered steps cost next h) (λ q b j p. record { at = p.at; unit = unit_as steps cost next h b p.at p.unit; inside = p.inside; address = p.address }) (λ b s f r. record { ends = r.ends; place = r.place }) (caller_as steps cost next h)
+      h.machine.memory k sp pc n (x.parked k sp pc n is ne);
   goal = x.goal;
 }
 

@@ -32,10 +32,11 @@ use Rattle.plain_words.proofs.Shown.{pended_shows}
 use Rattle.plain_runs.specs.Course.{with_machine, AllRun, AnswersCaller, AnswerFollows}
 use Rattle.plain_runs.specs.Host.{Host, seen, threads_from, descriptor_at, heap_words}
 use Rattle.plain_runs.specs.Units.{words_before, node_offset, IsPoll, IsBehindCall}
-use Rattle.plain_runs.specs.Sound.{IsWindow, IsCaller, IsHeld, InFrame, IsHosted, callers_of, entry_frame, ending_stub}
+use Rattle.plain_runs.specs.Sound.{IsWindow, IsCaller, IsHeld, CanTakeUp, InFrame, IsHosted, callers_of, entry_frame, ending_stub}
 use Rattle.plain_runs.proofs.Located.{some_is}
 use Rattle.plain_runs.proofs.Pointed.{next_offset, call_descriptor}
 use Rattle.plain_runs.proofs.Keeping.{unit_kept, stub_kept, caller_kept, held_kept, threads_set, OthersWait}
+use Rattle.plain_runs.proofs.Taking.{take_up_on}
 use Rattle.plain_runs.proofs.Working.{run_kept, ChangedInView, code_same, heap_stays, same_descriptors, view_on}
 use Rattle.plain_runs.proofs.Ready.{there_at}
 
@@ -56,6 +57,8 @@ hosted_same h to e zero_is windows x = record {
   others = λ k sp pc n is ne.
       let q = laid_as (IsHeld h) (IsHeld (with_machine h to)) (entry_frame k) ending_stub h.machine.memory n sp (saved_at h.machine.memory sp) pc [] (λ u s f y. held_kept h to u s f (λ a low. ap (λ m. word_at m a) e) y) (x.others k sp pc n is ne) in
       (let P : Words → Type 0 = λ m. AreLaid (IsHeld (with_machine h to)) (entry_frame k) ending_stub m n sp (saved_at m sp) pc [] in subst P (sym e) q);
+  parked = λ k sp pc n is ne.
+      (let P : Words → Type 0 = λ m. CanTakeUp (with_machine h to) m k sp pc n in subst P (sym e) (take_up_on h to (λ a low. ap (λ m. word_at m a) e) h.machine.memory k sp pc n (x.parked k sp pc n is ne)));
   goal = omega (arith, ap (λ m. word_at m 0x30000000) e, x.goal);
 }
 

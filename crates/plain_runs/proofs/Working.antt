@@ -25,8 +25,9 @@ use Rattle.plain_words.proofs.Shown.{pended_shows, moved_window}
 use Rattle.plain_runs.specs.Course.{with_machine, AllRun}
 use Rattle.plain_runs.specs.Host.{Host, Status, Waiting, seen, waiting, threads_from, descriptor_at, heap_words, raw_of}
 use Rattle.plain_runs.specs.Units.{HasUnit, IsPoll, IsInPoll, IsBehindCall, node_offset}
-use Rattle.plain_runs.specs.Sound.{IsWindow, IsRoomy, IsCaller, IsHeld, Calls, Polls, InFrame, RunsAt, IsHosted, GoesOn, callers_of, entry_frame, ending_stub}
+use Rattle.plain_runs.specs.Sound.{IsWindow, IsRoomy, IsCaller, IsHeld, Calls, Polls, CanTakeUp, InFrame, RunsAt, IsHosted, GoesOn, callers_of, entry_frame, ending_stub}
 use Rattle.plain_runs.proofs.Keeping.{SameCode, unit_kept, stub_kept, caller_kept, held_kept, threads_set, OthersWait, no_heap}
+use Rattle.plain_runs.proofs.Taking.{taken_up_on}
 use Rattle.plain_runs.proofs.Pointed.{poll_descriptor, call_descriptor, in_poll_descriptor}
 
 -- A word that is put in a stack leaves the heap.
@@ -166,6 +167,7 @@ pub record Others (h : Host) (b : ℕ) (to : MachineState) : Type 0 where
   pub waits : OthersWait h (with_machine h to) 0 h.statuses
   pub laid : (k sp pc count : ℕ) → slice_get h.statuses k ≡ Some (Waiting sp pc count) → k ≢ h.current
       → AreLaid (IsHeld (with_machine h to)) (entry_frame k) ending_stub to.memory count sp (saved_at to.memory sp) pc []
+  pub parked : (k sp pc count : ℕ) → slice_get h.statuses k ≡ Some (Waiting sp pc count) → k ≢ h.current → CanTakeUp (with_machine h to) to.memory k sp pc count
 
 within_four : {A : Type 0} (xs : List A) (k : ℕ) (x : A) → slice_get xs k ≡ Some x → length xs ≤ 4 → k < 4
 within_four xs k x e few = omega (arith, slice_get_within xs k x e)
@@ -197,6 +199,7 @@ others_stay h b to hosted frames c low stack below =
           let q = laid_as (IsHeld h) (IsHeld (with_machine h to)) (entry_frame k) ending_stub to.memory count sp (saved_at h.machine.memory sp) pc [] (λ u s f x. held_kept h to u s f (code_same h b to c) x) r in
           let P : Window → Type 0 = λ w. AreLaid (IsHeld (with_machine h to)) (entry_frame k) ending_stub to.memory count sp w pc [] in
           subst P (sym (saved_same h.machine.memory to.memory sp (λ a from end. same a from (omega (arith, top))))) q;
+      parked = λ k sp pc count e ne. taken_up_on h to frames (code_same h b to c) k sp pc count (each k sp pc count e ne) (hosted.parked k sp pc count e ne);
     }
 
 -- The activations of the current activity are the youngest and its callers.
@@ -260,6 +263,7 @@ view_on h b n next to now r hosted run low c keeps held_same stands poll next_is
         stub = stub_kept (Trap 9 ∷ []) h to ending_stub code (omega arith) hosted.stub;
         activities = hosted.activities;
         others = others.laid;
+        parked = others.parked;
         goal = omega (arith, c.changed 0x30000000 (inl (omega (arith, c.high))), hosted.goal);
       };
       goal = c.changed 0x30000000 (inl (omega (arith, c.high)));

@@ -94,8 +94,20 @@ pub data IsHeld (h : Host) (pc sp fp : ℕ) : Type 0 where
   Calls : IsCaller h pc sp fp → IsHeld h pc sp fp
   Polls : (b n : ℕ) → IsInPoll h pc b n → Runs h b → IsRoomy h b sp fp → IsHeld h pc sp fp
 
+-- Frames that stand in a memory, in the stack of an activity, so many of them: the youngest, which begins at sp, is that of a body, at the poll of
+-- a node, where its code goes on; the others wait for an answer.
+pub record CanTakeUp (h : Host) (memory : Words) (k sp pc count : ℕ) : Type 0 where
+  pub body : ℕ
+  pub number : ℕ
+  pub poll : IsPoll h pc body number
+  pub frame : IsRoomy h body sp (saved_at memory sp 14)
+  pub older : ℕ
+  pub counted : count ≡ suc older
+  pub few : older < 4096
+  pub callers : AreLaid (IsCaller h) (entry_frame k) ending_stub memory older (saved_at memory sp 14) (saved_at memory (saved_at memory sp 14)) (saved_at memory sp 15 + 8) []
+
 -- What holds wherever plain code runs, beside the activity that runs: memory is whole; the units stand that are said to stand; so does
--- the stub to which the oldest activations return; and the frames of each other activity lie in its stack.
+-- the stub to which the oldest activations return; and the frames of each other activity lie in its stack, as they were parked.
 pub record IsHosted (h : Host) : Type 0 where
   pub within : IsWithin h.machine.memory
   pub register_0 : h.machine.regs 0 ≡ 0
@@ -105,6 +117,7 @@ pub record IsHosted (h : Host) : Type 0 where
   pub activities : length h.statuses ≤ 4
   pub others : (k sp pc count : ℕ) → slice_get h.statuses k ≡ Some (Waiting sp pc count) → k ≢ h.current
       → AreLaid (IsHeld h) (entry_frame k) ending_stub h.machine.memory count sp (saved_at h.machine.memory sp) pc []
+  pub parked : (k sp pc count : ℕ) → slice_get h.statuses k ≡ Some (Waiting sp pc count) → k ≢ h.current → CanTakeUp h h.machine.memory k sp pc count
   pub goal : word_at h.machine.memory 0x30000000 ≤ 1000000000
 
 -- the activations that wait below the youngest of the current activity, so many of them

@@ -1,5 +1,5 @@
 -- What a service does to the counts and the control region leaves frames, units and heap.
-use Rattle.std.proofs.Common.{◌≡◌, ◌≢◌, ℕ, ◌+◌, ◌*◌, ◌/◌, ◌<◌, ◌≤◌, refl, ◌∙◌, ap, sym, subst, arith, inl, inr}
+use Rattle.std.proofs.Common.{◌≡◌, ◌≢◌, ℕ, ◌+◌, ◌*◌, ◌/◌, ◌≤◌, refl, ◌∙◌, ap, sym, subst, arith, inl, inr}
 use Rattle.std.specs.Prelude.{suc, List, [], ◌∷◌, length, All}
 use Rattle.sparc_insn.specs.declared.insn.Insn.TheVariants.{Trap}
 use Rattle.std.proofs.lemmas.Grind.{common_steps}
@@ -15,6 +15,7 @@ use Rattle.plain_runs.specs.Host.{Host, descriptor_at, heap_words}
 use Rattle.plain_runs.specs.Sound.{IsWindow, IsCaller, IsHeld, InFrame, IsHosted, callers_of, entry_frame, ending_stub}
 use Rattle.plain_runs.specs.Course.{with_machine, AllRun}
 use Rattle.plain_runs.proofs.Keeping.{SameCode, unit_kept, stub_kept, caller_kept, held_kept, OthersWait}
+use Rattle.plain_runs.proofs.Taking.{taken_up_on}
 use Rattle.plain_runs.proofs.Working.{callers_have_room, held_have_room, same_stack, same_descriptors}
 use Rattle.plain_words.specs.Units.{frame_words}
 use Rattle.plain_runs.specs.Services.{with_left}
@@ -143,6 +144,9 @@ stays_there h to b goal r hosted run s =
             let q = (rests (descriptor_at h) (IsHeld h) (entry_frame k) ending_stub m.memory to.memory n sp (saved_at m.memory sp) pc [] held l (high_same h to goal sp (entry_frame k + 64) s up)).1 in
             let q2 = laid_as (IsHeld h) (IsHeld h2) (entry_frame k) ending_stub to.memory n sp (saved_at m.memory sp) pc [] (λ u a f x. held_kept h to u a f low x) q in
             (let Q : Window → Type 0 = λ v. AreLaid (IsHeld h2) (entry_frame k) ending_stub to.memory n sp v pc [] in subst Q (sym (saved_same m.memory to.memory sp (high_same h to goal sp (sp + 64) s up))) q2);
+        parked = λ k sp pc n is ne.
+            let up = stack_high k sp (same_stack (descriptor_at h) (IsHeld h) (entry_frame k) ending_stub m.memory n sp (saved_at m.memory sp) pc [] held (hosted.others k sp pc n is ne)) in
+            taken_up_on h to held low k sp pc n (high_same h to goal sp (entry_frame k + 64) s up) (hosted.parked k sp pc n is ne);
         goal = omega (arith, s.goal_is, s.few);
       };
       view = record {

@@ -4,3 +4,4 @@ pub mod Gated
 pub mod Writing
 pub mod Keeping
 pub mod Obeying
+pub mod Switching

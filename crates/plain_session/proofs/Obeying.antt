@@ -11,7 +11,7 @@ use Rattle.source_model.specs.declared.objects.Core.{Core}
 use Rattle.source_model.specs.Formed.{arity}
 use Rattle.source_model.specs.Lines.{line, activity_line, run_line}
 use Rattle.source_model.specs.Names.{number_of}
-use Rattle.source_model.specs.Script.{refused, over, with_run_line}
+use Rattle.source_model.specs.Script.{refused, switch, over, with_run_line}
 use Rattle.source_model.specs.State.{Activation, Activity, Running, Answered, Failed, State, Reached, silent}
 use Rattle.source_model.specs.Texts.{error_text}
 use Rattle.plain_host.specs.Hosted.{Hosted, host}
@@ -328,3 +328,7 @@ step_is c e = ap obeyed e
 pub interrupt_is : (c : Command) (n : ℕ) → c ≡ commands.Interrupt n → obeyed c ≡ gated_steps n
 unfolding obeyed
 interrupt_is c n e = ap obeyed e
+
+pub switch_is : (c : Command) (k : ℕ) → c ≡ commands.Switch k → obeyed c ≡ switch k
+unfolding obeyed
+switch_is c k e = ap obeyed e

@@ -1,5 +1,5 @@
 -- Commands write behind what was written before.
-use Rattle.std.proofs.Common.{◌≡◌, ℕ, ◌+◌, refl, ◌∙◌, ap, sym, append_assoc, append-nil}
+use Rattle.std.proofs.Common.{◌≡◌, ℕ, zero, suc, ◌+◌, refl, ◌∙◌, ap, sym, append_assoc, append-nil}
 use Rattle.std.specs.Prelude.{◌++◌, ◌-◌, nat_lt, nat_le, if◌then◌else◌, Bool, true, false, cond, List, [], ◌∷◌, length, Option, Some, None, Ok, Err, slice_get, codes}
 use Rattle.self_terms.specs.declared.errors.ErrorName.TheVariants as errors
 use Rattle.self_terms.specs.declared.values.Value.TheVariants as values
@@ -7,7 +7,7 @@ use Rattle.source_model.specs.declared.objects.Content.TheVariants.{Constant, As
 use Rattle.source_model.specs.Lines.{line, activity_line, run_line}
 use Rattle.source_model.specs.Messages.{Met, Missing, Holds, meets}
 use Rattle.source_model.specs.Names.{number_of}
-use Rattle.source_model.specs.Script.{refused, spawned, with_activity, spawn_met, spawn, over, over_current, with_run_line}
+use Rattle.source_model.specs.Script.{refused, becomes, switch, spawned, with_activity, spawn_met, spawn, over, over_current, with_run_line}
 use Rattle.source_model.specs.Sends.{Outcome, begun, enters}
 use Rattle.source_model.specs.State.{Activation, Activity, Running, Answered, Failed, State, Reached, silent}
 use Rattle.source_model.specs.Texts.{error_text}
@@ -75,11 +75,16 @@ continue_writes : (n : ℕ) (r : Reached) → Writes r (gated_continue n r)
 unfolding gated_continue
 continue_writes n r = continue_over n (slice_get r.state.activities r.state.current) r
 
+switch_writes : (k : ℕ) (r : Reached) → Writes r (switch k r)
+switch_writes zero r = refuses (codes "no such activity") r
+switch_writes (suc k) r =
+    either (Writes r) (nat_lt k (length r.state.activities)) (becomes (record r.state { current = k }) (activity_line (k + 1)) r) (refused (codes "no such activity") r) (activity_line (k + 1), refl) (refuses (codes "no such activity") r)
+
 pub command_writes : (c : Command) (r : Reached) → Writes r (obeyed c r)
 unfolding obeyed
 command_writes (commands.Spawn name) r = gated_spawn_writes name r
 command_writes (commands.Run n) r = gated_steps_writes n r
-command_writes (commands.Switch k) r = nothing r
+command_writes (commands.Switch k) r = switch_writes k r
 command_writes (commands.Continue n) r = continue_writes n r
 command_writes commands.Step r = gated_steps_writes 1 r
 command_writes (commands.Interrupt n) r = gated_steps_writes n r

@@ -3,15 +3,16 @@ use Rattle.std.specs.Prelude.{ℕ, ◌-◌, ◌==◌, nat_le, Bool, true, false,
 use Rattle.session_text.specs.declared.commands.Command.{Command}
 use Rattle.session_text.specs.declared.commands.Command.TheVariants as commands
 use Rattle.source_model.specs.Formed.{arity}
-use Rattle.source_model.specs.Script.{refused, over_current, with_run_line}
+use Rattle.source_model.specs.Script.{refused, switch, over_current, with_run_line}
 use Rattle.source_model.specs.State.{State, Reached, silent}
 use Rattle.plain_stretches.specs.Gate.{gated_run}
 use Rattle.plain_core.specs.Gated.{gated_spawn, gated_steps}
 
--- the commands that are built: an activity of a method without arguments, and runs
+-- the commands that are built: an activity of a method without arguments, runs, and another current activity
 abbrev pub is_built : Command → Bool
 is_built (commands.Spawn name) = arity name == 0
 is_built (commands.Run n) = nat_le n 1000000000
+is_built (commands.Switch k) = true
 is_built (commands.Continue n) = nat_le n 1000000000
 is_built commands.Step = true
 is_built (commands.Interrupt n) = nat_le n 1000000000
@@ -25,6 +26,7 @@ gated_continue n r = over_current (λ all q. if nat_le q.state.steps n then with
 unfoldable pub obeyed : Command → Reached → Reached
 obeyed (commands.Spawn name) r = gated_spawn name r
 obeyed (commands.Run n) r = gated_steps n r
+obeyed (commands.Switch k) r = switch k r
 obeyed (commands.Continue n) r = gated_continue n r
 obeyed commands.Step r = gated_steps 1 r
 obeyed (commands.Interrupt n) r = gated_steps n r

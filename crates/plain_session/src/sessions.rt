@@ -2,6 +2,7 @@
 ghost use Rattle.std.specs.Prelude.{◌≡◌, ◌≢◌, ◌≤◌, ◌+◌, ◌^◌, ◌++◌, ℕ, [], true, codes, length, slice_get, None, Some, IfOk, OnErr};
 ghost use Rattle.source_model.specs.Formed.{IsWellFormed, arity};
 ghost use Rattle.source_model.specs.Lines.{activity_line};
+ghost use Rattle.source_model.specs.Script.{switch};
 ghost use Rattle.source_model.specs.Texts.{error_text};
 ghost use Rattle.session_text.specs.LineTexts.{HasRoom, line_text};
 ghost use Rattle.plain_steps.specs.Steps.{NamesSums};
@@ -153,6 +154,26 @@ impl Session {
         Ok(birth_line(&self.hosting, birth))
     }
 
+    /// The command `switch` to the activity of a number, from 1, and its line. Takes no memory.
+    pub fn switch(&mut self, k: u32) -> LineText<'static>
+        requires shows { IsShown self.old }
+        ensures obeys { Obeys self.old self.new (switch k) (line_text result) }
+        ensures room { HasRoom result }
+        ensures counted { count (host_of self.new) ≡ count (host_of self.old) }
+        ensures led { IsLed self.old self.new }
+        ensures rose { CountsFew self.old self.new }
+    {
+        if k == 0 {
+            return LineText::Fixed("refused no such activity");
+        }
+        if k > self.hosting.activities() {
+            return LineText::Fixed("refused no such activity");
+        }
+        self.hosting.is_whole();
+        self.hosting.switch(k - 1);
+        LineText::Activity(k as u8)
+    }
+
     // A run of the current activity, which goes on.
     fn go(&mut self, alloc: Global, steps: u32) -> Result<LineText<'static>, OutOfMemory>
         requires shows { IsShown self.old }
@@ -255,6 +276,7 @@ impl Session {
         match command {
             Command::Spawn(name) => self.spawn(alloc, name.as_slice()),
             Command::Run(steps) => self.run(alloc, *steps),
+            Command::Switch(k) => Ok(self.switch(*k)),
             Command::Continue(steps) => self.continue_to(alloc, *steps),
             Command::Step => self.run(alloc, 1),
             Command::Interrupt(steps) => self.run(alloc, *steps),

@@ -14,13 +14,14 @@ use Rattle.frame_walk.specs.Raw.{Going}
 use Rattle.frame_walk.specs.Walk.{activations, Asked, AreLaid, Frames}
 use Rattle.frame_walk.proofs.Resting.{laid_as}
 use Rattle.frame_moves.proofs.Spared.{flush_only, low_same}
-use Rattle.frame_moves.proofs.Moving.{flush_stays, flush_view_stays, flush_sound, flush_own, flushed_window, others_stay}
+use Rattle.frame_moves.proofs.Moving.{flush_stays, flush_view_stays, flush_sound, flush_own, flushed_window, others_between, others_stay}
 use Rattle.plain_words.specs.Units.{frame_words}
 use Rattle.plain_runs.specs.Host.{Host, seen, waiting, threads_from, descriptor_at, heap_words, raw_of}
 use Rattle.plain_runs.specs.declared.status.Status.TheVariants.{Waiting}
-use Rattle.plain_runs.specs.Sound.{IsRoomy, IsCaller, IsHeld, IsWindow, Calls, Polls, InFrame, RunsAt, IsHosted, entry_frame, ending_stub}
+use Rattle.plain_runs.specs.Sound.{IsRoomy, IsCaller, IsHeld, IsWindow, Calls, Polls, CanTakeUp, InFrame, RunsAt, IsHosted, entry_frame, ending_stub}
 use Rattle.plain_runs.specs.Course.{AllRun}
 use Rattle.plain_runs.proofs.Keeping.{unit_kept, stub_kept, caller_kept, held_kept, threads_set, OthersWait}
+use Rattle.plain_runs.proofs.Taking.{take_up_kept, take_up_on}
 use Rattle.plain_runs.proofs.Working.{held_have_room, run_kept, same_descriptors}
 use Rattle.plain_show.specs.Showing.{IsAtPoll, StaysAtPoll, flushed_host}
 use Rattle.plain_show.proofs.Flushing.{few, entry_place, laid_more, laid_now, sound, stack, low}
@@ -132,6 +133,16 @@ module _ (h : Host) (p : IsAtPoll h) where
       others_stay (descriptor_at h) (IsHeld h) (entry_frame h.current) (entry_frame k) ending_stub h.machine.memory new count sp pc (held_have_room h p.all) (entry_place k four) apart
       (flush_own (entry_frame h.current) (suc p.runs.view.older) (stack_of h.machine) (sound h p) (stack h p)) (p.hosted.others k sp pc count is ne)
 
+  parked_now : (k sp pc count : ℕ) → slice_get h.statuses k ≡ Some (Waiting sp pc count) → k ≢ h.current → CanTakeUp h new k sp pc count
+  parked_now k sp pc count is ne =
+      let four : k < 4 = omega (arith, slice_get_within h.statuses k (Waiting sp pc count) is, p.hosted.activities) in
+      let apart : entry_frame k / 0x02000000 ≢ entry_frame h.current / 0x02000000 = λ e. ne (omega (arith, e)) in
+      let all = held_have_room h p.all in
+      take_up_kept h all h.machine.memory new k sp pc count
+      (others_between (descriptor_at h) (IsHeld h) (entry_frame h.current) (entry_frame k) ending_stub h.machine.memory new count sp (saved_at h.machine.memory sp) pc [] all (entry_place k four) apart
+      (flush_own (entry_frame h.current) (suc p.runs.view.older) (stack_of h.machine) (sound h p) (stack h p)) (p.hosted.others k sp pc count is ne))
+      (p.hosted.parked k sp pc count is ne)
+
   hosted_now : IsHosted to
   hosted_now =
       let o = p.hosted in
@@ -144,6 +155,7 @@ module _ (h : Host) (p : IsAtPoll h) where
         stub = stub_kept (Trap 9 ∷ []) h to.machine ending_stub (low h p) (omega arith) o.stub;
         activities = o.activities;
         others = λ k sp pc count is ne. laid_as (IsHeld h) (IsHeld to) (entry_frame k) ending_stub new count sp (saved_at new sp) pc [] (λ q s f x. held_kept h to.machine q s f (low h p) x) (others_now k sp pc count is ne).1;
+        parked = λ k sp pc count is ne. take_up_on h to.machine (low h p) new k sp pc count (parked_now k sp pc count is ne);
         goal = (let e = low_same h.machine.memory new 0x30000000 (flush_only (stack_of h.machine)) (omega arith) in let g = o.goal in omega (arith, e, g));
       }
 

@@ -28,12 +28,13 @@ use Rattle.plain_runs.specs.Services.{filled, in_first_frame}
 use Rattle.plain_runs.specs.Sound.{IsWindow, IsCaller, IsHeld, Calls, Polls, RunsAt, IsHosted, entry_frame, ending_stub}
 use Rattle.plain_runs.specs.Course.{AllRun}
 use Rattle.plain_runs.proofs.Keeping.{SameCode, unit_kept, stub_kept}
+use Rattle.plain_runs.proofs.Taking.{take_up_as}
 use Rattle.plain_runs.proofs.Located.{none_before}
 use Rattle.plain_steps.proofs.Here.{now_seen}
 use Rattle.plain_begins.proofs.Parking.{lying}
 use Rattle.plain_begins.proofs.Hosting.{lain, threads_long}
 use Rattle.plain_spawns.specs.Spawns.{first_context, with_context}
-use Rattle.plain_spawns.proofs.Filled.{first_place, first_there, first_ends, first_shows, first_within, first_heap, first_low, first_others}
+use Rattle.plain_spawns.proofs.Filled.{first_place, first_there, first_ends, first_shows, first_within, first_heap, first_low, first_others, first_ready}
 use Rattle.plain_spawns.proofs.Resting.{Rests}
 use Rattle.plain_spawns.proofs.Spawning.{opened}
 
@@ -136,6 +137,12 @@ module _ (h : Host) (before : Words) (older : List Window) (ss : List Status) (h
       | inl before ↦
           let new = to.machine.memory in
           laid_as (IsHeld h) (IsHeld to) (entry_frame j) ending_stub new count sp (saved_at new sp) pc [] held_on (first_others h memory ss rest run room c holder owned j sp pc count before).1
+      | inr last ↦ absurd (ne (last.0 ∙ rest.long))
+    ];
+    parked = λ j sp pc count is ne. elim (push_cases ss j (Waiting sp pc count) (Waiting 0 0 0) is) [
+      | inl before ↦
+          take_up_as h to (λ q b n p. record { at = p.at; unit = unit_on b p.at p.unit; inside = p.inside; address = p.address }) (λ b s f r. record { ends = r.ends; place = r.place }) caller_on
+          to.machine.memory j sp pc count (first_ready h memory ss rest run room c holder owned j sp pc count before)
       | inr last ↦ absurd (ne (last.0 ∙ rest.long))
     ];
     goal = omega (arith, goal_kept, hosted.goal);

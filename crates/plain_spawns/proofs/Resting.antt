@@ -13,8 +13,9 @@ use Rattle.plain_runs.specs.declared.status.Status.TheVariants.{Waiting, Answere
 use Rattle.plain_runs.specs.Sound.{IsHeld, entry_frame, ending_stub}
 use Rattle.plain_runs.specs.Course.{AllRun}
 use Rattle.plain_runs.proofs.Keeping.{SameCode}
+use Rattle.plain_runs.proofs.Taking.{take_up_kept}
 use Rattle.plain_runs.proofs.Working.{held_have_room, same_stack}
-use Rattle.plain_begins.proofs.Parking.{Parks, Lies, lying}
+use Rattle.plain_begins.proofs.Parking.{Parks, Lies, Ready, lying}
 use Rattle.plain_evaluates.proofs.Laid.{put_apart, put_within}
 
 -- In this memory, which has the code and the goal of the host's, the activities with these statuses show what they showed.
@@ -24,6 +25,7 @@ pub record Rests (h : Host) (memory : Words) (ss : List Status) : Type 0 where
   pub goal : word_at memory 0x30000000 ≡ word_at h.machine.memory 0x30000000
   pub long : length ss ≡ length h.statuses
   pub laid : (k : ℕ) (x : Status) → slice_get ss k ≡ Some x → Lies h memory k x
+  pub ready : (k : ℕ) (x : Status) → slice_get ss k ≡ Some x → Ready h memory k x
   pub shows : map (lying h memory) ss ≡ threads_from h 0 h.statuses
 
 same_map : {A B : Type 0} (f g : A → B) (xs : List A) → ((k : ℕ) (x : A) → slice_get xs k ≡ Some x → f x ≡ g x) → map f xs ≡ map g xs
@@ -51,6 +53,14 @@ module _ (h : Host) (run : AllRun h) (old new : Words) (same : (b : ℕ) → 0x4
   lies_on k (Answered w) l = tt
   lies_on k (Failed e p) l = tt
 
+  ready_on : (k : ℕ) (x : Status) → Lies h old k x → Ready h old k x → Ready h new k x
+  ready_on k (Waiting sp pc count) l r =
+      let held = held_have_room h run in
+      let up = stack_high k sp (same_stack (descriptor_at h) (IsHeld h) (entry_frame k) ending_stub old count sp (saved_at old sp) pc [] held l) in
+      take_up_kept h held old new k sp pc count (λ b from below. same b (omega (arith, up, from))) r
+  ready_on k (Answered w) l r = tt
+  ready_on k (Failed e p) l r = tt
+
   lying_on : (k : ℕ) (x : Status) → Lies h old k x → lying h new x ≡ lying h old x
   lying_on k (Waiting sp pc count) l = ap Going (one_stays k sp pc count l).0
   lying_on k (Answered w) l = refl
@@ -66,5 +76,6 @@ rests_on h run memory ss park top ws low room =
       goal = put_apart ws memory top 0x30000000 (inr (omega (arith, room))) ∙ park.low 0x30000000 (omega arith);
       long = park.long;
       laid = λ k x e. lies_on h run memory new same k x (park.laid k x e);
+      ready = λ k x e. ready_on h run memory new same k x (park.laid k x e) (park.ready k x e);
       shows = same_map (lying h new) (lying h memory) ss (λ k x e. lying_on h run memory new same k x (park.laid k x e)) ∙ park.shows;
     }

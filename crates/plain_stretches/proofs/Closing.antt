@@ -16,6 +16,7 @@ use Rattle.plain_runs.specs.Sound.{IsCaller, IsHeld, Calls, Polls, IsHosted, ent
 use Rattle.plain_runs.specs.Services.{settled}
 use Rattle.plain_runs.specs.Course.{with_machine, AllRun}
 use Rattle.plain_runs.proofs.Keeping.{OthersWait}
+use Rattle.plain_runs.proofs.Taking.{take_up_as}
 use Rattle.plain_steps.specs.Steps.{StandsFor}
 use Rattle.plain_sends.proofs.Settling.{controlled, SettledTo}
 use Rattle.plain_sends.proofs.Resumming.{hosted_as}
@@ -74,6 +75,9 @@ hosted_closed st h x =
       others = λ k sp pc n is ne.
           laid_as (IsHeld h) (IsHeld (closed st h)) (entry_frame k) ending_stub h.machine.memory n sp (saved_at h.machine.memory sp) pc [] (held_in ss h)
           (x.others k sp pc n (sym (set_elsewhere h.statuses h.current k st ne) ∙ is) ne);
+      parked = λ k sp pc n is ne.
+          take_up_as h (closed st h) (λ q b j p. record { at = p.at; unit = unit_in ss h b p.at p.unit; inside = p.inside; address = p.address }) (λ b s f r. record { ends = r.ends; place = r.place }) (caller_in ss h)
+          h.machine.memory k sp pc n (x.parked k sp pc n (sym (set_elsewhere h.statuses h.current k st ne) ∙ is) ne);
       goal = x.goal;
     }
 

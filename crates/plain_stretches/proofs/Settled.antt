@@ -24,6 +24,7 @@ use Rattle.plain_runs.specs.Sound.{IsWindow, IsHeld, RunsAt, IsHosted, callers_o
 use Rattle.plain_runs.specs.Services.{cleared}
 use Rattle.plain_runs.specs.Course.{with_machine, AllRun}
 use Rattle.plain_runs.proofs.Keeping.{unit_kept, stub_kept, held_kept, threads_set, OthersWait}
+use Rattle.plain_runs.proofs.Taking.{taken_up_on}
 use Rattle.plain_runs.proofs.Working.{held_have_room, same_stack, same_descriptors, plain_fits}
 use Rattle.plain_steps.proofs.Here.{current_there, now_seen}
 use Rattle.plain_sends.proofs.Settling.{SettledTo, settles}
@@ -137,6 +138,9 @@ kept_settled h to goal hosted run s =
             let q = (rests (descriptor_at h) (IsHeld h) (entry_frame k) ending_stub m.memory to.memory n sp (saved_at m.memory sp) pc [] held l (high sp (entry_frame k + 64) up)).1 in
             let q2 = laid_as (IsHeld h) (IsHeld h2) (entry_frame k) ending_stub to.memory n sp (saved_at m.memory sp) pc [] (λ u a f x. held_kept h to u a f low x) q in
             (let Q : Window → Type 0 = λ v. AreLaid (IsHeld h2) (entry_frame k) ending_stub to.memory n sp v pc [] in subst Q (sym (saved_same m.memory to.memory sp (high sp (sp + 64) up))) q2);
+        parked = λ k sp pc n is ne.
+            let up = stack_high k sp (same_stack (descriptor_at h) (IsHeld h) (entry_frame k) ending_stub m.memory n sp (saved_at m.memory sp) pc [] held (hosted.others k sp pc n is ne)) in
+            taken_up_on h to held low k sp pc n (high sp (entry_frame k + 64) up) (hosted.parked k sp pc n is ne);
         goal = omega (arith, s.memory.goal_is, s.few);
       };
       waits = λ k sp pc n is ne.

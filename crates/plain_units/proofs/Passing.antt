@@ -111,7 +111,7 @@ module _ (h : Host) (c : ℕ) (memory : Words) (put : IsPut h c memory) where
   pub above : (b : ℕ) → 0x20000000 ≤ b → word_at memory b ≡ word_at h.machine.memory b
   above b high = put.apart.others b (inr (omega (arith, high, put.region.to)))
 
-  high_same : (from end : ℕ) → 0x40000000 ≤ from → SameBetween from end h.machine.memory memory
+  pub high_same : (from end : ℕ) → 0x40000000 ≤ from → SameBetween from end h.machine.memory memory
   high_same from end high b low below = above b (omega (arith, low, high))
 
   -- frames of a stack show the same, and are laid

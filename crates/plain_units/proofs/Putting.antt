@@ -19,11 +19,12 @@ use Rattle.plain_runs.specs.Units.{HasUnit, IsInPoll}
 use Rattle.plain_runs.specs.Services.{next_unit, with_unit}
 use Rattle.plain_runs.specs.Sound.{IsCaller, IsHeld, Calls, Polls, InFrame, RunsAt, IsHosted, entry_frame, ending_stub}
 use Rattle.plain_runs.specs.Course.{AllRun}
+use Rattle.plain_runs.proofs.Taking.{take_up_kept, take_up_as}
 use Rattle.plain_runs.proofs.Working.{held_have_room, same_stack}
 use Rattle.plain_steps.specs.Steps.{StandsFor}
 use Rattle.plain_units.specs.Putting.{IsPut, UnitsArePut, UnitsArePutIdle}
 use Rattle.plain_units.proofs.Points.{at_same, heap_same, set_there, set_elsewhere}
-use Rattle.plain_units.proofs.Passing.{unit_in, new_unit, plain_in, kept_in, callers_in, above, saved_in, Kept, threads_same, thread_same}
+use Rattle.plain_units.proofs.Passing.{unit_in, new_unit, plain_in, caller_in, kept_in, callers_in, above, high_same, saved_in, Kept, threads_same, thread_same}
 
 -- the frame in view, at a poll, and its callers, as frames that are held
 view_laid : (h : Host) (b n : ℕ) (node : Node) → AllRun h → (r : RunsAt h b n node)
@@ -76,6 +77,9 @@ module _ (h : Host) (c : ℕ) (memory : Words) (put : IsPut h c memory) (hosted 
     activities = hosted.activities;
     others = λ k sp pc n is ne.
         (let P : Window → Type 0 = λ w. AreLaid (IsHeld to) (entry_frame k) ending_stub memory n sp w pc [] in subst P (sym (saved_in h c memory put sp (others_high k sp pc n is ne))) (others_kept k sp pc n is ne).laid);
+    parked = λ k sp pc n is ne.
+        take_up_as h to (λ q b j p. record { at = p.at; unit = unit_in h c memory put b p.at p.unit; inside = p.inside; address = p.address }) (λ b s f r. record { ends = r.ends; place = r.place }) (caller_in h c memory put)
+        memory k sp pc n (take_up_kept h (held_have_room h run) h.machine.memory memory k sp pc n (high_same h c memory put sp (entry_frame k + 64) (others_high k sp pc n is ne)) (hosted.parked k sp pc n is ne));
     goal = omega (arith, above h c memory put 0x30000000 (omega arith), hosted.goal);
   }
 

@@ -17,6 +17,7 @@ use Rattle.plain_runs.specs.Units.{HasUnit}
 use Rattle.plain_runs.specs.Sound.{IsWindow, IsCaller, IsHeld, Calls, Polls, IsHosted, entry_frame, ending_stub}
 use Rattle.plain_runs.specs.Course.{with_machine, AllRun}
 use Rattle.plain_runs.proofs.Keeping.{SameCode, unit_kept, stub_kept, held_kept, OthersWait}
+use Rattle.plain_runs.proofs.Taking.{take_up_as, taken_up_on}
 use Rattle.plain_runs.proofs.Working.{held_have_room, same_stack, same_descriptors}
 
 -- a machine whose memory has the same code and, but for the stack of the current activity, the same stacks
@@ -66,6 +67,9 @@ kept_apart h to goal hosted run s =
             let q = (rests (descriptor_at h) (IsHeld h) (entry_frame k) ending_stub m.memory to.memory n sp (saved_at m.memory sp) pc [] held l (same k sp ne at)).1 in
             let q2 = laid_as (IsHeld h) (IsHeld h2) (entry_frame k) ending_stub to.memory n sp (saved_at m.memory sp) pc [] (λ u a f x. held_kept h to u a f s.code x) q in
             (let Q : Window → Type 0 = λ v. AreLaid (IsHeld h2) (entry_frame k) ending_stub to.memory n sp v pc [] in subst Q (sym (first k sp ne at top)) q2);
+        parked = λ k sp pc n is ne.
+            let at = same_stack (descriptor_at h) (IsHeld h) (entry_frame k) ending_stub m.memory n sp (saved_at m.memory sp) pc [] held (hosted.others k sp pc n is ne) in
+            taken_up_on h to held s.code k sp pc n (same k sp ne at) (hosted.parked k sp pc n is ne);
         goal = omega (arith, s.goal_is, s.few);
       };
       waits = λ k sp pc n is ne0.
@@ -117,6 +121,9 @@ module _ (h : Host) (to : MachineState) (x : Status) (steps cost : ℕ) where
     others = λ k sp pc n is ne.
         laid_as (IsHeld (with_machine h to)) (IsHeld (ended h to x steps cost)) (entry_frame k) ending_stub to.memory n sp (saved_at to.memory sp) pc [] held_as
         (o.others k sp pc n (sym (got_other h.statuses h.current k x ne) ∙ is) ne);
+    parked = λ k sp pc n is ne.
+        take_up_as (with_machine h to) (ended h to x steps cost) (λ q b j p. record { at = p.at; unit = unit_as b p.at p.unit; inside = p.inside; address = p.address }) (λ b s f r. record { ends = r.ends; place = r.place }) caller_as
+        to.memory k sp pc n (o.parked k sp pc n (sym (got_other h.statuses h.current k x ne) ∙ is) ne);
     goal = o.goal;
   }
 

@@ -51,7 +51,11 @@ main = ( 3 _IntAdd: 4 ).~;edit lobby~f = ( 1 )~end~jump~;script refused line 4~;
 main = ( 3 _IntAdd: 4 ).~;step~jump~;script refused line 2~;3
 main = ( 3 _IntAdd: 4 ).~;spawn main~step~;activity 1~stop at 1 line 10:21~;0
 main = ( 3 _IntAdd: 4 ).~;spawn main~run 1~stack~run 9~;not built~;3
-main = ( 3 _IntAdd: 4 ).~;spawn main~switch 1~;not built~;3
+main = ( 3 _IntAdd: 4 ).~;switch 1~spawn main~switch 1~switch 2~switch 0~;refused no such activity~activity 1~activity 1~refused no such activity~refused no such activity~;0
+main = ( 3 _IntAdd: 4 ).~;spawn main~spawn main~run 2~switch 1~run 9~switch 2~run 9~switch 1~step~;\
+activity 1~activity 2~stop at 2 line 10:12~activity 1~done 7 at 6~activity 2~done 7 at 8~activity 1~refused ended~;0
+f = ( f ).~main = ( f ).~g = ( 3 _IntAdd: 4 ).~;spawn main~run 20~spawn g~run 2~switch 1~run 5~switch 2~run 9~switch 1~run 9999~;\
+activity 1~stop at 20 line 10:7~activity 2~stop at 22 line 12:9~activity 1~stop at 27 line 10:7~activity 2~done 7 at 29~activity 1~error stackOverflow at 4099 line 10:7~;0
 main = ( 3 _IntAdd: 4 ).~;continue 3~step~interrupt 1~;refused no activity~refused no activity~refused no activity~;0
 main = ( 3 _IntAdd: 4 ).~;spawn main~continue 2~continue 2~;activity 1~stop at 2 line 10:12~stop at 2 line 10:12~;0
 main = ( 3 _IntAdd: 4 ).~;spawn main~run 3~continue 2~continue 3~;activity 1~stop at 3 line 10:23~refused past~stop at 3 line 10:23~;0

@@ -4,7 +4,7 @@ use Rattle.source_model.specs.State.{Reached}
 use Rattle.session_text.specs.LineTexts.{line_text}
 use Rattle.plain_core.specs.Gated.{gated_spawn}
 use Rattle.plain_session.specs.Sessions.{Obeys}
-use Rattle.plain_session.proofs.Obeying.{spawn_is, run_is, continue_is, step_is, interrupt_is}
+use Rattle.plain_session.proofs.Obeying.{spawn_is, run_is, continue_is, step_is, interrupt_is, switch_is}
 use Rattle.plain_session.proofs.sessions.Session.obey.Goals as goal
 
 pub returns-in-Spawn-clause-obeys : goal.returns-in-Spawn-clause-obeys
@@ -31,3 +31,8 @@ pub returns-in-Interrupt-clause-obeys : goal.returns-in-Interrupt-clause-obeys
 returns-in-Interrupt-clause-obeys c =
     let P : (Reached → Reached) → Type 0 = λ d. IfOk c.run-in-Interrupt.result (λ t. Obeys c.args.self.now c.run-in-Interrupt.new.self d (line_text t)) in
     subst P (sym (interrupt_is c.args.command.now c.in-Interrupt.steps c.in-Interrupt.is)) c.run-in-Interrupt.ensures.obeys
+
+pub returns-in-Switch-clause-obeys : goal.returns-in-Switch-clause-obeys
+returns-in-Switch-clause-obeys c =
+    let P : (Reached → Reached) → Type 0 = λ d. Obeys c.args.self.now c.switch.new.self d (line_text c.switch.result) in
+    subst P (sym (switch_is c.args.command.now c.in-Switch.k c.in-Switch.is)) c.switch.ensures.obeys
