@@ -74,6 +74,8 @@ pub record DoesPrint (h : Host) (s : State) (out : List ℕ) : Type 0 where
   pub goes : Goes instructions h.machine to
   pub hosted : IsHosted (with_machine h to)
   pub goal : word_at to.memory 0x30000000 ≡ word_at h.machine.memory 0x30000000
+  pub left : word_at to.memory 0x30000004 ≡ word_at h.machine.memory 0x30000004
+  pub paid : to.regs 6 + 4 * h.machine.regs 3 ≡ h.machine.regs 6 + 4 * to.regs 3
   pub body : ℕ
   pub number : ℕ
   pub next : Node

@@ -129,4 +129,5 @@ callers_of h older =
 pub record GoesOn (h to : Host) (now : Thread) : Type 0 where
   pub hosted : IsHosted to
   pub goal : word_at to.machine.memory 0x30000000 ≡ word_at h.machine.memory 0x30000000
+  pub left : word_at to.machine.memory 0x30000004 ≡ word_at h.machine.memory 0x30000004
   pub raw : raw_of to ≡ becomes (raw_of h) now

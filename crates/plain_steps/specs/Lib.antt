@@ -1,2 +1,3 @@
 -- Plain code against the source.
 pub mod Steps
+pub mod Paying

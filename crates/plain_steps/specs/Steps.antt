@@ -45,7 +45,8 @@ pub record StandsFor (z : Sense) (h : Host) (s : State) : Type 0 where
   pub sums : NamesSums s.names
 
 -- So many instructions do the step: machine and host then stand for the state after it, which counts one step more, at the poll of a node of
--- a body. What was left of the goal still stands there.
+-- a body. What was left of the goal and of the plain cost still stands there, and what is put at the heap's top is paid for: of the top and of the
+-- plain cost in %g3 the one goes up by four bytes for each word of the other.
 pub record DoesStep (z : Sense) (h : Host) (s : State) : Type 0 where
   pub instructions : ℕ
   pub few : instructions ≤ 512
@@ -53,6 +54,8 @@ pub record DoesStep (z : Sense) (h : Host) (s : State) : Type 0 where
   pub goes : Goes instructions h.machine to
   pub hosted : IsHosted (with_machine h to)
   pub goal : word_at to.memory 0x30000000 ≡ word_at h.machine.memory 0x30000000
+  pub left : word_at to.memory 0x30000004 ≡ word_at h.machine.memory 0x30000004
+  pub paid : to.regs 6 + 4 * h.machine.regs 3 ≡ h.machine.regs 6 + 4 * to.regs 3
   pub body : ℕ
   pub number : ℕ
   pub next : Node
@@ -135,6 +138,9 @@ pub record EndsActivity (z : Sense) (h : Host) (s : State) : Type 0 where
   pub to : MachineState
   pub goes : Goes instructions h.machine to
   pub trap : IsTrap 9 to
+  pub left : word_at to.memory 0x30000004 ≡ word_at h.machine.memory 0x30000004
+  pub top : to.regs 6 ≡ h.machine.regs 6
+  pub cost : to.regs 3 ≡ h.machine.regs 3
   pub sense : Sense
   pub hosted : IsHosted (with_machine h to)
   pub stands : StandsFor sense (answered (with_machine h to)) (step s).state

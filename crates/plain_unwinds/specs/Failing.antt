@@ -6,6 +6,7 @@ use Rattle.self_terms.specs.declared.nodes.Node.{Node}
 use Rattle.self_terms.specs.declared.nodes.Place.{Place}
 use Rattle.self_terms.specs.declared.nodes.Selector.{Selector}
 use Rattle.self_terms.specs.declared.values.BodyId.{BodyId}
+use Rattle.sparc_store.specs.Words.{word_at}
 use Rattle.sparc_machine.specs.State.{MachineState}
 use Rattle.source_model.specs.declared.objects.Content.TheVariants.{Method}
 use Rattle.source_model.specs.Messages.{Missing, Holds}
@@ -25,6 +26,8 @@ use Rattle.plain_unwinds.specs.Services.{fails_unmarked}
 -- step, which counts no step.
 pub record Fails (goal cost : ℕ) (h : Host) (s : State) (e : ErrorName) (p : Place) : Type 0 where
   pub hosted : IsHosted (fails_unmarked goal cost e p h)
+  pub left : word_at (fails_unmarked goal cost e p h).machine.memory 0x30000004 ≡ cost
+  pub top : (fails_unmarked goal cost e p h).machine.regs 6 ≡ h.machine.regs 6
   pub sense : Sense
   pub stands : StandsFor sense (fails_unmarked goal cost e p h) (step s).state
   pub uncounted : (step s).state.steps ≡ s.steps

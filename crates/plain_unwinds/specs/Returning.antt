@@ -47,13 +47,18 @@ abbrev pub HomeReturns : Type 0
 HomeReturns = (z : Sense) (h : Host) (s : State) (b n : ℕ) → StandsFor z h s → RunsAt h b n nodes.NonLocal → CanGo h → (q : AsksHome h b n)
     → (goal cost : ℕ) → goal ≤ 1000000000 → Unwinds z (unwinds goal cost (with_machine h q.asks.to)) s
 
--- What the service leaves: what is left of the goal in its place, with the step counted in the host's sum; the current activity and the bodies.
-pub record Leaves (goal : ℕ) (h to : Host) (s : State) : Type 0 where
+-- What the service leaves: what is left of the goal and of the plain cost in their places, with the step counted in the host's sum; the heap's top and
+-- what was paid; the current activity and the bodies.
+pub record Leaves (goal cost : ℕ) (h to : Host) (s : State) : Type 0 where
   pub goal_is : word_at to.machine.memory 0x30000000 ≡ goal
+  pub left_is : word_at to.machine.memory 0x30000004 ≡ cost
+  pub top : to.machine.regs 6 ≡ h.machine.regs 6
+  pub settled : to.machine.regs 3 ≡ 0
+  pub sum : to.cost ≡ h.cost + h.machine.regs 3
   pub steps_are : to.steps ≡ s.steps + 1
   pub current : to.current ≡ h.current
   pub runs : AllRun to
 
 abbrev pub HomesLeave : Type 0
 HomesLeave = (z : Sense) (h : Host) (s : State) (b n : ℕ) → StandsFor z h s → RunsAt h b n nodes.NonLocal → CanGo h → (q : AsksHome h b n)
-    → (goal cost : ℕ) → goal ≤ 1000000000 → Leaves goal h (unwinds goal cost (with_machine h q.asks.to)) s
+    → (goal cost : ℕ) → goal ≤ 1000000000 → Leaves goal cost h (unwinds goal cost (with_machine h q.asks.to)) s
