@@ -1,12 +1,12 @@
 -- A method that a message meets is entered, and so is a block.
 use Rattle.std.specs.Prelude.{◌≡◌, ℕ, suc, ◌+◌, ◌*◌, ◌^◌, ◌<◌, ◌≤◌, Bool, true, false, List, ◌∷◌, length, Some, slice_get}
 use Rattle.self_terms.specs.declared.nodes.Node.{Node}
-use Rattle.self_terms.specs.declared.nodes.Selector.{Selector}
 use Rattle.self_terms.specs.declared.values.BodyId.{BodyId}
 use Rattle.self_terms.specs.declared.values.Value.TheVariants as values
 use Rattle.self_terms.specs.Depths.{depth}
+use Rattle.sparc_machine.specs.State.{MachineState}
 use Rattle.source_model.specs.declared.objects.Content.TheVariants.{Method}
-use Rattle.source_model.specs.Messages.{Holds}
+use Rattle.source_model.specs.Messages.{Met, Holds}
 use Rattle.source_model.specs.Soundness.{body_in}
 use Rattle.source_model.specs.State.{State}
 use Rattle.frame_walk.specs.Places.{Frame}
@@ -20,7 +20,7 @@ use Rattle.plain_runs.specs.Sound.{RunsAt, callers_of}
 use Rattle.plain_runs.specs.Course.{with_machine, CanGo}
 use Rattle.plain_runs.specs.Services.{calls}
 use Rattle.plain_steps.specs.Steps.{StandsFor, DoesStep}
-use Rattle.plain_sends.specs.Sends.{IsSent, met_of}
+use Rattle.plain_sends.specs.Messages.{IsMessaged}
 
 -- the words of a context of an activation of a body
 abbrev pub context_words : Host → ℕ → ℕ
@@ -50,20 +50,20 @@ pub record IsOpen (h : Host) (b at args older : ℕ) (block : Bool) : Type 0 whe
 
 -- Where the message meets a method of an object, the words of its entry do the source's step, whatever the service leaves of goal and plain cost.
 abbrev pub MethodsAreEntered : Type 0
-MethodsAreEntered = (z : Sense) (h : Host) (s : State) (b n : ℕ) (node : Node) (sel : Selector) (r : RunsAt h b n node) (q : IsSent z h s b n node sel r) → StandsFor z h s → CanGo h
-    → (o : ℕ) (c : BodyId) (holder at : ℕ) → met_of node s q.sender ≡ Holds o (Method c) → o < length s.things → slice_get z.places.objects o ≡ Some holder → IsOpen h c.0 at sel.args r.view.older false
-    → (goal cost : ℕ) → goal ≤ 1000000000 → DoesStep z (calls goal cost at holder (with_machine h q.asks.to)) s
+MethodsAreEntered = (z : Sense) (h : Host) (s : State) (b n : ℕ) (node : Node) (args name : ℕ) (met : Met) (r : RunsAt h b n node) (to : MachineState) (q : IsMessaged z h s b n node args name met r to) → StandsFor z h s → CanGo h
+    → (o : ℕ) (c : BodyId) (holder at : ℕ) → met ≡ Holds o (Method c) → o < length s.things → slice_get z.places.objects o ≡ Some holder → IsOpen h c.0 at args r.view.older false
+    → (goal cost : ℕ) → goal ≤ 1000000000 → DoesStep z (calls goal cost at holder (with_machine h to)) s
 
 -- the frames of the current activity, while the youngest waits for the answer to its message
-abbrev pub frames_waiting : (z : Sense) (h : Host) (s : State) (b n : ℕ) (node : Node) (sel : Selector) (r : RunsAt h b n node) → IsSent z h s b n node sel r → List Frame
-frames_waiting z h s b n node sel r q =
+abbrev pub frames_waiting : (z : Sense) (h : Host) (s : State) (b n : ℕ) (node : Node) (args name : ℕ) (met : Met) (r : RunsAt h b n node) (to : MachineState) → IsMessaged z h s b n node args name met r to → List Frame
+frames_waiting z h s b n node args name met r to q =
     let f = viewed h.machine b n (frame_locals (body_in h.bodies b)) (depth (body_in h.bodies b).nodes n) in
     frame_at f.next q.words.rest f ∷ callers_of h r.view.older
 
 -- Where it is for a block and meets its own method, and the mark of the block's context is that of a frame of the activity, those of the block's
 -- entry do so.
 abbrev pub BlocksAreEntered : Type 0
-BlocksAreEntered = (z : Sense) (h : Host) (s : State) (b n : ℕ) (node : Node) (sel : Selector) (r : RunsAt h b n node) (q : IsSent z h s b n node sel r) → StandsFor z h s → CanGo h
-    → (o : ℕ) (c block : BodyId) (maker holder at : ℕ) → met_of node s q.sender ≡ Holds o (Method c) → length s.things ≤ o → q.message.receiver ≡ values.Block block maker
-    → (y : Frame) → maker_frame (raw_of h).mem q.words (frames_waiting z h s b n node sel r q) ≡ Some y → IsOpen h block.0 at sel.args r.view.older true
-    → (goal cost : ℕ) → goal ≤ 1000000000 → DoesStep z (calls goal cost at holder (with_machine h q.asks.to)) s
+BlocksAreEntered = (z : Sense) (h : Host) (s : State) (b n : ℕ) (node : Node) (args name : ℕ) (met : Met) (r : RunsAt h b n node) (to : MachineState) (q : IsMessaged z h s b n node args name met r to) → StandsFor z h s → CanGo h
+    → (o : ℕ) (c block : BodyId) (maker holder at : ℕ) → met ≡ Holds o (Method c) → length s.things ≤ o → q.message.receiver ≡ values.Block block maker
+    → (y : Frame) → maker_frame (raw_of h).mem q.words (frames_waiting z h s b n node args name met r to q) ≡ Some y → IsOpen h block.0 at args r.view.older true
+    → (goal cost : ℕ) → goal ≤ 1000000000 → DoesStep z (calls goal cost at holder (with_machine h to)) s

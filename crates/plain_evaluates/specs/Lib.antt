@@ -1,4 +1,3 @@
 -- Activations that plain code enters, with contexts and without, of methods and of blocks.
 pub mod Evaluates
 pub mod Refusing
-pub mod Paying

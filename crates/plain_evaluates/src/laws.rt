@@ -1,9 +1,8 @@
 // Laws of methods and blocks that plain code enters.
 ghost use Rattle.plain_evaluates.specs.Evaluates.{MethodsAreEntered, BlocksAreEntered};
-ghost use Rattle.plain_evaluates.specs.Paying.{MethodsPay, BlocksPay};
 ghost use Rattle.plain_evaluates.specs.Refusing.{MarksDecide, MethodsAreRefused, BlocksAreRefused};
 
-/// A law: where the message of a node meets a method, the words of its entry do the source's step.
+/// A law: where a message at a trap meets a method, the words of its entry do the source's step.
 pub fn methods_are_entered()
     ensures { MethodsAreEntered }
 {}
@@ -12,12 +11,6 @@ pub fn methods_are_entered()
 /// block's entry.
 pub fn blocks_are_entered()
     ensures { BlocksAreEntered }
-{}
-
-/// A law: they count as many words of plain cost as they put at the heap's top.
-pub fn entries_pay()
-    ensures method { MethodsPay }
-    ensures block { BlocksPay }
 {}
 
 /// A law: at the trap of a message for a block, the mark of the block's context decides whether its maker's frame is one of the activity's.

@@ -39,25 +39,7 @@ use Rattle.plain_sends.proofs.Serving.{other, two_others, high_counts, behind_se
 use Rattle.plain_sends.proofs.Settling.{Controlled, controlled, SettledTo, KeptTo, kept_to, same_code, same_stacks}
 use Rattle.plain_answers.proofs.Failing.{errors_fail}
 use Rattle.plain_answers.proofs.Storing.{InHeap, stored_in_heap, assignment_place}
-use Rattle.plain_handlers.specs.Messages.{SendsMessage, DataAnswersMessages, AssignmentsAnswerMessages, MissingMessagesFail, MessagesOverflow}
-
-pub sends_message : SendsMessage
-sends_message z h s b n node sel r q = record {
-  at = q.at;
-  moved = q.asks.moved;
-  behind = q.behind;
-  low = q.low;
-  takes = q.takes;
-  sender = q.sender;
-  older = q.older;
-  is_at = q.is_at;
-  message = q.message;
-  words = q.words;
-  send = q.send;
-  receiver_is = q.receiver_is;
-  arguments = q.arguments;
-  rest = q.rest;
-}
+use Rattle.plain_handlers.specs.Messages.{DataAnswersMessages, AssignmentsAnswerMessages, MissingMessagesFail, MessagesOverflow}
 
 -- Data.
 

@@ -43,7 +43,7 @@ use Rattle.plain_calls.proofs.Bounds.{frame_least}
 use Rattle.plain_calls.proofs.Free.{free_below}
 use Rattle.plain_calls.proofs.Method.{sender_frame, in_method}
 use Rattle.plain_calls.proofs.Views.{method_frame}
-use Rattle.plain_handlers.specs.Messages.{IsMessaged, MethodsAnswerMessages}
+use Rattle.plain_handlers.specs.Messages.{MethodsAnswerMessages}
 use Rattle.plain_handlers.proofs.Answering.{seen_long, as_many}
 
 high_kept : (regs : ℕ → ℕ) (v w r : ℕ) → 16 ≤ r → with_reg (with_reg (cleared regs) 15 v) 5 w r ≡ regs r

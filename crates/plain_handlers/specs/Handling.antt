@@ -23,10 +23,10 @@ use Rattle.raw_steps.specs.Stands.{Sense}
 use Rattle.plain_runs.specs.Host.{Host, heap_words}
 use Rattle.plain_runs.specs.Sound.{RunsAt}
 use Rattle.plain_steps.specs.Steps.{StandsFor}
+use Rattle.plain_sends.specs.Messages.{IsMessaged}
 use Rattle.plain_lookups.specs.Telling.{MayLook, FoundTells}
 use Rattle.plain_prims.specs.Asking.{IsPerformed}
 use Rattle.plain_prims.specs.Rows.{effect_of}
-use Rattle.plain_handlers.specs.Messages.{IsMessaged}
 
 -- the name of the message that a handler gets
 abbrev pub failure_name : State → ℕ

@@ -1,6 +1,6 @@
 // Laws of messages at a trap, and of failures with a handler.
 ghost use Rattle.plain_handlers.specs.Handling.{FailuresAreHandled, HandlersAreFound, HandlersFit};
-ghost use Rattle.plain_handlers.specs.Messages.{AssignmentsAnswerMessages, DataAnswersMessages, MessagesOverflow, MethodsAnswerMessages, MissingMessagesFail, SendsMessage};
+ghost use Rattle.plain_handlers.specs.Messages.{AssignmentsAnswerMessages, DataAnswersMessages, MessagesOverflow, MethodsAnswerMessages, MissingMessagesFail};
 
 /// A law: a primitive that fails and has a handler is a message to that, once its words are in place. What a lookup from the handler finds tells what the
 /// message meets, which takes two arguments in a well-formed state.
@@ -10,10 +10,9 @@ pub fn failures_are_handled()
     ensures fits { HandlersFit }
 {}
 
-/// A law: a node that sends has a message at its trap; where data, an assignment slot or a method answers it, the words behind the trap, or those of the
-/// method, do the source's step.
+/// A law: where data, an assignment slot or a method answers a message at a trap, the words behind the trap, or those of the method, do the source's
+/// step.
 pub fn messages_are_answered()
-    ensures sends { SendsMessage }
     ensures data { DataAnswersMessages }
     ensures assignment { AssignmentsAnswerMessages }
     ensures method { MethodsAnswerMessages }

@@ -4,3 +4,4 @@ pub mod Resumming
 pub mod Serving
 pub mod Sending
 pub mod Founds
+pub mod Messages

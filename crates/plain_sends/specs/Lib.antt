@@ -1,3 +1,4 @@
 -- Sends in plain code.
 pub mod Sends
 pub mod Found
+pub mod Messages

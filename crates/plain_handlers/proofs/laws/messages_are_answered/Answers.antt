@@ -1,9 +1,6 @@
-use Rattle.plain_handlers.proofs.Answering.{sends_message, data_answers_messages, assignments_answer_messages}
+use Rattle.plain_handlers.proofs.Answering.{data_answers_messages, assignments_answer_messages}
 use Rattle.plain_handlers.proofs.Calling.{methods_answer_messages}
 use Rattle.plain_handlers.proofs.laws.messages_are_answered.Goals as goal
-
-pub returns-clause-sends : goal.returns-clause-sends
-returns-clause-sends c = sends_message
 
 pub returns-clause-data : goal.returns-clause-data
 returns-clause-data c = data_answers_messages
