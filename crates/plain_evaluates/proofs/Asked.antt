@@ -3,11 +3,11 @@ use Rattle.std.proofs.Common.{◌≡◌, ◌≢◌, ℕ, zero, suc, ◌+◌, ◌
 use Rattle.std.specs.Prelude.{Bool, true, false, if◌then◌else◌, nat_eq, ◌∷◌, drop}
 use Rattle.std.proofs.lemmas.Grind.{common_steps}
 use Rattle.self_terms.specs.declared.nodes.Node.{Node}
-use Rattle.self_terms.specs.declared.nodes.Selector.{Selector}
 use Rattle.self_terms.specs.Depths.{taken, depth}
 use Rattle.sparc_store.specs.Words.{Words}
 use Rattle.sparc_store.specs.Windows.{kept, with_reg}
 use Rattle.sparc_machine.specs.State.{MachineState}
+use Rattle.source_model.specs.Messages.{Met}
 use Rattle.source_model.specs.Soundness.{body_in}
 use Rattle.source_model.specs.State.{State}
 use Rattle.frame_walk.specs.Places.{shown, plain_descriptor}
@@ -26,7 +26,7 @@ use Rattle.plain_runs.specs.Course.{with_machine, CanGo}
 use Rattle.plain_runs.specs.Services.{cleared, with_left, handed, calls}
 use Rattle.plain_runs.proofs.Keeping.{SameCode, unit_kept}
 use Rattle.plain_runs.proofs.Working.{run_kept, plain_fits}
-use Rattle.plain_sends.specs.Sends.{IsSent}
+use Rattle.plain_sends.specs.Messages.{IsMessaged}
 use Rattle.plain_sends.proofs.Serving.{other, older_ones}
 use Rattle.plain_sends.proofs.Settling.{Controlled, controlled, SettledTo, KeptTo, StillThere}
 use Rattle.plain_evaluates.proofs.Called.{IsCalled}
@@ -90,15 +90,14 @@ sender_shown h b n node to goal r can st =
     ∙ older_ones m.memory window sp b n locals (taken node) k takes
 
 -- the machine at the first word of an entry
-abbrev pub machine_called : (z : Sense) (h : Host) (s : State) (b n : ℕ) (node : Node) (sel : Selector) (r : RunsAt h b n node) → IsSent z h s b n node sel r → ℕ → ℕ → ℕ → ℕ → MachineState
-machine_called z h s b n node sel r q goal cost at holder = (calls goal cost at holder (with_machine h q.asks.to)).machine
+abbrev pub machine_called : (z : Sense) (h : Host) (s : State) (b n : ℕ) (node : Node) (args name : ℕ) (met : Met) (r : RunsAt h b n node) (mt : MachineState) → IsMessaged z h s b n node args name met r mt → ℕ → ℕ → ℕ → ℕ → MachineState
+machine_called z h s b n node args name met r mt q goal cost at holder = (calls goal cost at holder (with_machine h mt)).machine
 
-pub call_settles : (z : Sense) (h : Host) (s : State) (b n : ℕ) (node : Node) (sel : Selector) (r : RunsAt h b n node) (q : IsSent z h s b n node sel r) → CanGo h → (goal cost at holder : ℕ) → goal ≤ 1000000000
-    → SettledTo h (machine_called z h s b n node sel r q goal cost at holder) goal
-call_settles z h s b n node sel r q can goal cost at holder few =
+pub call_settles : (z : Sense) (h : Host) (s : State) (b n : ℕ) (node : Node) (args name : ℕ) (met : Met) (r : RunsAt h b n node) (mt : MachineState) (q : IsMessaged z h s b n node args name met r mt) → CanGo h → (goal cost at holder : ℕ) → goal ≤ 1000000000
+    → SettledTo h (machine_called z h s b n node args name met r mt q goal cost at holder) goal
+call_settles z h s b n node args name met r mt q can goal cost at holder few =
     let m = h.machine in
-    let mt = q.asks.to in
-    let mv = q.asks.moved in
+    let mv = q.moved in
     let v = mt.pc - 4 in
     let w = handed (mt.regs 8) holder in
     record {
@@ -117,20 +116,20 @@ pub record AtEntry (h : Host) (b n c at older : ℕ) (node : Node) : Type 0 wher
   pub deep : called.view.older ≡ older
 
 -- so it is over any machine whose registers are these, and whose stacks and code are those of the sender's
-pub at_entry : (z : Sense) (h : Host) (s : State) (b n : ℕ) (node : Node) (sel : Selector) (r : RunsAt h b n node) (q : IsSent z h s b n node sel r) → CanGo h → (c goal cost at holder : ℕ) → HasUnit h c at
+pub at_entry : (z : Sense) (h : Host) (s : State) (b n : ℕ) (node : Node) (args name : ℕ) (met : Met) (r : RunsAt h b n node) (mt : MachineState) (q : IsMessaged z h s b n node args name met r mt) → CanGo h → (c goal cost at holder : ℕ) → HasUnit h c at
     → (memory : Words) → SameCode h.machine.memory memory
-    → (let to : MachineState = record (machine_called z h s b n node sel r q goal cost at holder) { memory = memory } in StillThere h to b r.view.older → AtEntry (with_machine h to) b n c at r.view.older node)
-at_entry z h s b n node sel r q can c goal cost at holder unit memory low still =
-    let to : MachineState = record (machine_called z h s b n node sel r q goal cost at holder) { memory = memory } in
+    → (let to : MachineState = record (machine_called z h s b n node args name met r mt q goal cost at holder) { memory = memory } in StillThere h to b r.view.older → AtEntry (with_machine h to) b n c at r.view.older node)
+at_entry z h s b n node args name met r mt q can c goal cost at holder unit memory low still =
+    let to : MachineState = record (machine_called z h s b n node args name met r mt q goal cost at holder) { memory = memory } in
     let behind = q.behind in
-    let back : to.regs 15 ≡ q.asks.to.pc - 4 = refl in
+    let back : to.regs 15 ≡ mt.pc - 4 = refl in
     record {
       called = record {
         view = still.view;
         hosted = still.hosted;
         runs = run_kept h to can.runs;
         current = can.current;
-        behind = record { at = behind.at; unit = unit_kept h to b behind.at low behind.unit; node_is = behind.node_is; call = behind.call; address = omega (arith, back, behind.address, q.asks.moved.stands.here, behind.unit.from) };
+        behind = record { at = behind.at; unit = unit_kept h to b behind.at low behind.unit; node_is = behind.node_is; call = behind.call; address = omega (arith, back, behind.address, q.moved.stands.here, behind.unit.from) };
         stands = record { here = refl; next = refl };
         unit = unit_kept h to c at low unit;
       };

@@ -1,18 +1,17 @@
 -- An activation that a message begins.
-use Rattle.std.proofs.Common.{◌≡◌, ◌≢◌, ℕ, zero, suc, ◌+◌, ◌-◌, ◌*◌, ◌%◌, ◌<◌, ◌≤◌, refl, ◌∙◌, ap, sym, subst, arith, length-append}
+use Rattle.std.proofs.Common.{◌≡◌, ◌≢◌, ℕ, zero, suc, ◌+◌, ◌-◌, ◌*◌, ◌%◌, ◌<◌, ◌≤◌, refl, ◌∙◌, ap, sym, subst, arith, length-append, inr}
 use Rattle.std.specs.List.{list_any}
 use Rattle.std.specs.Prelude.{Bool, true, false, ◌||◌, List, [], ◌∷◌, ◌++◌, length, slice_set}
 use Rattle.object_maps.specs.declared.layout.Heap.{Heap}
 use Rattle.self_terms.specs.declared.bodies.Body.{Body}
 use Rattle.self_terms.specs.declared.nodes.Node.{Node}
 use Rattle.self_terms.specs.declared.nodes.Node.TheVariants as nodes
-use Rattle.self_terms.specs.declared.nodes.Selector.{Selector}
 use Rattle.self_terms.specs.Depths.{depth}
 use Rattle.sparc_store.specs.Words.{Words, Framed}
 use Rattle.sparc_store.specs.Windows.{Frame as Window, frame_before, but_first}
 use Rattle.sparc_machine.specs.State.{MachineState}
 use Rattle.source_model.specs.Soundness.{body_in}
-use Rattle.source_model.specs.Messages.{body_of}
+use Rattle.source_model.specs.Messages.{Met, body_of}
 use Rattle.source_model.specs.Sends.{enters, is_block_literal as by_source}
 use Rattle.source_model.specs.State.{Activation, State}
 use Rattle.source_model.specs.Step.{done, step}
@@ -32,11 +31,10 @@ use Rattle.plain_runs.specs.Sound.{RunsAt, callers_of}
 use Rattle.plain_runs.specs.Course.{with_machine, CanGo}
 use Rattle.plain_runs.specs.Services.{handed, calls}
 use Rattle.plain_runs.proofs.Keeping.{threads_set}
-use Rattle.plain_steps.specs.Steps.{StandsFor}
-use Rattle.plain_evaluates.specs.Paying.{DoesPaidStep}
+use Rattle.plain_steps.specs.Steps.{StandsFor, DoesStep}
 use Rattle.plain_steps.proofs.Answering.{wants_none}
 use Rattle.plain_steps.proofs.Words.{stands_after}
-use Rattle.plain_sends.specs.Sends.{IsSent}
+use Rattle.plain_sends.specs.Messages.{IsMessaged}
 use Rattle.plain_sends.proofs.Resumming.{runs_as, hosted_as, threads_as}
 use Rattle.plain_sends.proofs.Serving.{set_set}
 use Rattle.plain_sends.proofs.Settling.{KeptTo, StillThere, kept_to, stays_there}
@@ -48,7 +46,7 @@ use Rattle.plain_evaluates.proofs.Called.{place_below, place_there, place_is, pl
 use Rattle.plain_evaluates.proofs.Free.{free_below}
 use Rattle.plain_evaluates.proofs.Heaped.{framed_in_heap, filled_past}
 use Rattle.plain_evaluates.proofs.Inside.{sender_frame, is_inside}
-use Rattle.plain_evaluates.proofs.Laid.{laid, kept_laid}
+use Rattle.plain_evaluates.proofs.Laid.{put_apart, laid, kept_laid}
 use Rattle.plain_evaluates.proofs.Saved.{Shape, frame_of, memory_after}
 use Rattle.plain_evaluates.proofs.Views.{HasBegun}
 use Rattle.plain_evaluates.proofs.Words.{leads_in, kept_count}
@@ -87,8 +85,8 @@ as_many wants z at [] (f ∷ fs) h = absurd h
 as_many wants z at (a ∷ all) [] h = absurd h
 
 -- as many activations wait behind the sender's in the source as in words
-pub many_older : (z : Sense) (h : Host) (s : State) (b n : ℕ) (node : Node) (sel : Selector) (r : RunsAt h b n node) (q : IsSent z h s b n node sel r) → StandsFor z h s → length q.older ≡ r.view.older
-many_older z h s b n node sel r q stood =
+pub many_older : (z : Sense) (h : Host) (s : State) (b n : ℕ) (node : Node) (args name : ℕ) (met : Met) (r : RunsAt h b n node) (mt : MachineState) (q : IsMessaged z h s b n node args name met r mt) → StandsFor z h s → length q.older ≡ r.view.older
+many_older z h s b n node args name met r mt q stood =
     let m = h.machine in
     let f = viewed m b n (frame_locals (body_in h.bodies b)) (depth (body_in h.bodies b).nodes n) in
     let fs = callers_of h r.view.older in
@@ -135,9 +133,9 @@ cost_is false m to n few zero3 e = e ∙ zero3
 cost_is true m to n few zero3 e = e ∙ omega (arith, few, zero3)
 
 -- as many words are counted as are put at the heap's top
-pays : (owns : Bool) (m to : MachineState) (n top cost was sum : ℕ) → m.regs 6 ≡ top → to.regs 3 ≡ cost_more owns n → to.regs 6 ≡ top_then owns m n → was ≡ cost → to.regs 6 + 4 * (sum + cost) ≡ top + 4 * (sum + was + to.regs 3)
-pays false m to n top cost was sum is costs e same = omega (arith, is, costs, e, same)
-pays true m to n top cost was sum is costs e same = omega (arith, is, costs, e, same)
+pays : (owns : Bool) (m to : MachineState) (n : ℕ) → m.regs 3 ≡ 0 → to.regs 3 ≡ cost_more owns n → to.regs 6 ≡ top_then owns m n → to.regs 6 + 4 * m.regs 3 ≡ m.regs 6 + 4 * to.regs 3
+pays false m to n zero3 costs e = omega (arith, zero3, costs, e)
+pays true m to n zero3 costs e = omega (arith, zero3, costs, e)
 
 -- memory as the words leave it is that of a frame filled over a heap in which the context stands
 memory_is : (owns block : Bool) (h : Host) (c : ℕ) (m : MachineState) → (let p = place_below (with_machine h m) c in let x = body_in h.bodies c in let cell = cell_of owns block h c m in
@@ -148,10 +146,10 @@ memory_is true block h c m aligned low room high =
     let p = place_below (with_machine h m) c in
     filled_past (cell_of true block h c m) m.memory (m.regs 6) (m.regs 30) (p + 104) (given_holder block m) m.older aligned low room (omega (arith, high))
 
-module _ (z : Sense) (h : Host) (s : State) (b n : ℕ) (node : Node) (sel : Selector) (r : RunsAt h b n node) (q : IsSent z h s b n node sel r) (stood : StandsFor z h s) (can : CanGo h)
-    (c goal cost at holder : ℕ) (low : goal ≤ 1000000000) (owns block : Bool) (owned : owns_context (body_in h.bodies c) ≡ owns) (is_open : IsOpen h c at sel.args r.view.older block) where
+module _ (z : Sense) (h : Host) (s : State) (b n : ℕ) (node : Node) (args name : ℕ) (met : Met) (r : RunsAt h b n node) (mt : MachineState) (q : IsMessaged z h s b n node args name met r mt) (stood : StandsFor z h s) (can : CanGo h)
+    (c goal cost at holder : ℕ) (low : goal ≤ 1000000000) (owns block : Bool) (owned : owns_context (body_in h.bodies c) ≡ owns) (is_open : IsOpen h c at args r.view.older block) where
   abbrev mc : MachineState
-  mc = machine_called z h s b n node sel r q goal cost at holder
+  mc = machine_called z h s b n node args name met r mt q goal cost at holder
 
   abbrev x : Body
   x = body_in h.bodies c
@@ -178,7 +176,7 @@ module _ (z : Sense) (h : Host) (s : State) (b n : ℕ) (node : Node) (sel : Sel
   place = place_below hm c
 
   top_same : mc.regs 6 ≡ h.machine.regs 6
-  top_same = four_others q.asks.to.regs (q.asks.to.pc - 4) (handed (q.asks.to.regs 8) holder) 6 refl refl refl refl ∙ q.asks.moved.kept 6 refl
+  top_same = four_others mt.regs (mt.pc - 4) (handed (mt.regs 8) holder) 6 refl refl refl refl ∙ q.moved.kept 6 refl
 
   same_count : 4 + count ≡ context_words h c
   same_count = let e = initial_long h.references x in omega arith
@@ -202,7 +200,7 @@ module _ (z : Sense) (h : Host) (s : State) (b n : ℕ) (node : Node) (sel : Sel
   cell_fits = cell_room owns (numbered h.references.contexts ∷ given_maker block mc ∷ place ∷ given_receiver block mc ∷ all_words h c mc) (mc.regs 6) count h c same_count (omega (arith, words_long h c mc)) top_same top_within keeps
 
   kept_called : KeptTo h mc goal
-  kept_called = kept_to h mc goal (call_settles z h s b n node sel r q can goal cost at holder low)
+  kept_called = kept_to h mc goal (call_settles z h s b n node args name met r mt q can goal cost at holder low)
 
   kept_here : KeptTo h m1 goal
   kept_here = kept_laid h mc goal cell kept_called top_low cell_fits
@@ -211,10 +209,10 @@ module _ (z : Sense) (h : Host) (s : State) (b n : ℕ) (node : Node) (sel : Sel
   still = stays_there h m1 b goal r.view can.hosted can.runs kept_here
 
   entry : AtEntry h1 b n c at r.view.older node
-  entry = at_entry z h s b n node sel r q can c goal cost at holder is_open.unit m1.memory kept_here.code still
+  entry = at_entry z h s b n node args name met r mt q can c goal cost at holder is_open.unit m1.memory kept_here.code still
 
   entry_before : AtEntry hm b n c at r.view.older node
-  entry_before = at_entry z h s b n node sel r q can c goal cost at holder is_open.unit mc.memory kept_called.code (stays_there h mc b goal r.view can.hosted can.runs kept_called)
+  entry_before = at_entry z h s b n node args name met r mt q can c goal cost at holder is_open.unit mc.memory kept_called.code (stays_there h mc b goal r.view can.hosted can.runs kept_called)
 
   abbrev p : ℕ
   p = at + 4 * length (entry_code h.references x)
@@ -267,11 +265,10 @@ module _ (z : Sense) (h : Host) (s : State) (b n : ℕ) (node : Node) (sel : Sel
       ap (λ (y : Frame). y ∷ callers_of h1 r.view.older) (sender_shown h b n node m1 goal r can kept_here ∙ ap {A = List ℕ} (λ ws. frame_at f.next ws f) (sym q.rest))
       ∙ ap (λ (ys : List Frame). frame_at f.next q.words.rest f ∷ ys) still.callers
 
-  pub entered_step : CanStart block mc → RawFollows z (raw_after (raw_of h) (heap_words m1.memory) heap_then now (h.cost + h.machine.regs 3 + cost_more owns count)) (step s) [] → DoesPaidStep z h (calls goal cost at holder (with_machine h q.asks.to)) s
+  pub entered_step : CanStart block mc → RawFollows z (raw_after (raw_of h) (heap_words m1.memory) heap_then now (h.cost + h.machine.regs 3 + cost_more owns count)) (step s) [] → DoesStep z (calls goal cost at holder (with_machine h mt)) s
   entered_step start raw =
       let m = h.machine in
-      let mt = q.asks.to in
-      let mv = q.asks.moved in
+      let mv = q.moved in
       let g = leads start in
       let to = g.to in
       let called = entry.called in
@@ -304,23 +301,22 @@ module _ (z : Sense) (h : Host) (s : State) (b n : ℕ) (node : Node) (sel : Sel
       let few = entry_few h.references x (can.runs c).translates in
       let stands : mc.pc ≡ at = refl in
       record {
-        does = record {
-          instructions = g.instructions;
-          few = omega (arith, few, g.few, stands);
-          to = to;
-          goes = g.goes;
-          hosted = hosted_as steps sum h2 inside.hosted;
-          goal = inside.goal ∙ kept_here.goal_is ∙ sym kept_called.goal_is;
-          body = c;
-          number = 0;
-          next = inside.next;
-          runs = runs_as steps sum h2 c 0 inside.next inside.runs;
-          sense = raw.to;
-          stands = stands_after z h last s (raw_after (raw_of h) (heap_words m1.memory) heap_then now (h.cost + m.regs 3 + cost_more owns count)) stood shows refl refl refl raw;
-          counted = sym raw.stands.steps ∙ ap (λ y. y + 1) stood.stands.steps;
-          silent = raw.same;
-        };
-        paid = pays owns mc to count (m.regs 6) (m.regs 3) (mt.regs 3) h.cost top_same costs g.begun.top (mv.kept 3 refl);
+        instructions = g.instructions;
+        few = omega (arith, few, g.few, stands);
+        to = to;
+        goes = g.goes;
+        hosted = hosted_as steps sum h2 inside.hosted;
+        goal = inside.goal ∙ kept_here.goal_is ∙ sym kept_called.goal_is;
+        left = inside.left ∙ put_apart cell mc.memory (mc.regs 6) 0x30000004 (inr (omega (arith, cell_fits)));
+        paid = pays owns mc to count zero3 costs g.begun.top;
+        body = c;
+        number = 0;
+        next = inside.next;
+        runs = runs_as steps sum h2 c 0 inside.next inside.runs;
+        sense = raw.to;
+        stands = stands_after z h last s (raw_after (raw_of h) (heap_words m1.memory) heap_then now (h.cost + m.regs 3 + cost_more owns count)) stood shows refl refl refl raw;
+        counted = sym raw.stands.steps ∙ ap (λ y. y + 1) stood.stands.steps;
+        silent = raw.same;
       }
 
   -- What the source enters, and its words.
@@ -342,7 +338,7 @@ module _ (z : Sense) (h : Host) (s : State) (b n : ℕ) (node : Node) (sel : Sel
     positive bad = let there = place_there hm b n c at node entry_before.called in absurd (omega (arith, bad, there.1))
 
     few_older : suc (length q.older) < 4096
-    few_older = let a = many_older z h s b n node sel r q stood in let b = is_open.few in omega arith
+    few_older = let a = many_older z h s b n node args name met r mt q stood in let b = is_open.few in omega arith
 
     body_of_it : y.body ≡ c
     body_of_it = is.body ∙ body_is
@@ -351,7 +347,7 @@ module _ (z : Sense) (h : Host) (s : State) (b n : ℕ) (node : Node) (sel : Sel
     long = ap length (sym words_are) ∙ words_long h c mc
 
     heap_same : heap_words mc.memory ≡ heap_words h.machine.memory
-    heap_same = (call_settles z h s b n node sel r q can goal cost at holder low).memory.heap
+    heap_same = (call_settles z h s b n node args name met r mt q can goal cost at holder low).memory.heap
 
     by_kind : (o : Bool) → owns_context x ≡ o → CanKeep o h c → Target o
     by_kind false plain keep =
@@ -399,5 +395,5 @@ module _ (z : Sense) (h : Host) (s : State) (b n : ℕ) (node : Node) (sel : Sel
         } in
         subst (λ (w : Raw). RawFollows z w (step s) []) same raw
 
-    pub entry_steps : CanStart block mc → DoesPaidStep z h (calls goal cost at holder (with_machine h q.asks.to)) s
+    pub entry_steps : CanStart block mc → DoesStep z (calls goal cost at holder (with_machine h mt)) s
     entry_steps start = entered_step start (by_kind owns owned keeps)

@@ -18,7 +18,7 @@ use Rattle.plain_runs.proofs.Located.{none_before}
 use Rattle.plain_steps.proofs.Here.{now_seen}
 use Rattle.plain_evaluates.proofs.Called.{IsCalled, place_below}
 use Rattle.plain_evaluates.proofs.Saved.{Shape, frame_of, after}
-use Rattle.plain_evaluates.proofs.Others.{code_after, goal_after, waits_after, hosted_after}
+use Rattle.plain_evaluates.proofs.Others.{code_after, goal_after, left_after, waits_after, hosted_after}
 use Rattle.plain_evaluates.proofs.Views.{HasBegun, has_entered, begun_shown, callers_shown, view_after}
 
 first_of : {A : Type 0} (xs : List A) → 0 < length xs → (x : A) × (slice_get xs 0 ≡ Some x)
@@ -38,6 +38,7 @@ sender_frame h b n node = viewed h.machine b n (frame_locals (body_in h.bodies b
 pub record IsInside (h : Host) (b n c older : ℕ) (node : Node) (x : Shape) (to : MachineState) : Type 0 where
   pub hosted : IsHosted (with_machine h to)
   pub goal : word_at to.memory 0x30000000 ≡ word_at h.machine.memory 0x30000000
+  pub left : word_at to.memory 0x30000004 ≡ word_at h.machine.memory 0x30000004
   pub next : Node
   pub runs : RunsAt (with_machine h to) c 0 next
   pub threads : threads_from (with_machine h to) 0 h.statuses ≡ slice_set (threads_from h 0 h.statuses) h.current (Going (frame_of c (place_below h c) x ∷ sender_frame h b n node ∷ callers_of h older))
@@ -71,6 +72,7 @@ is_inside h b n c at node q room some x long to e =
     record {
       hosted = hosted_after h b n c at node q x long to has;
       goal = goal_after h b n c at node q x long to has;
+      left = left_after h b n c at node q x long to has;
       next = first.0;
       runs = runs;
       threads = threads_set h h2 0 h.current h.statuses q.view.sp q.view.pc q.view.known refl (omega arith) q.view.running (waits_after h b n c at node q x long to has) ∙ ap (λ ys. slice_set (threads_from h 0 h.statuses) h.current (Going ys)) shown;

@@ -3,13 +3,14 @@ use Rattle.std.proofs.Common.{◌≡◌, ◌≢◌, ℕ, zero, suc, ◌+◌, ◌
 use Rattle.std.specs.Prelude.{Bool, true, false, nat_eq, not, ◌&&◌, find, cond, if◌then◌else◌, List, [], ◌∷◌, length, Option, Some, None, slice_get}
 use Rattle.std.proofs.lemmas.Bool.{cases_eq, eqb-true, eq-eqb, ne_eqb, cond-false}
 use Rattle.self_terms.specs.declared.nodes.Node.{Node}
-use Rattle.self_terms.specs.declared.nodes.Selector.{Selector}
 use Rattle.self_terms.specs.declared.values.BodyId.{BodyId}
 use Rattle.self_terms.specs.declared.values.Value.{Value}
 use Rattle.self_terms.specs.declared.values.Value.TheVariants as values
 use Rattle.self_terms.specs.Depths.{depth}
 use Rattle.sparc_store.specs.Words.{Words, word_at}
 use Rattle.sparc_store.specs.Windows.{saved_at, frame_before, but_first}
+use Rattle.sparc_machine.specs.State.{MachineState}
+use Rattle.source_model.specs.Messages.{Met}
 use Rattle.source_model.specs.Soundness.{body_in}
 use Rattle.source_model.specs.State.{State}
 use Rattle.heap_cells.specs.Source.{Made, Plain as without, Ended, Live}
@@ -32,7 +33,7 @@ use Rattle.plain_runs.proofs.Located.{some_is}
 use Rattle.plain_runs.proofs.Working.{callers_have_room, held_have_room, same_stack}
 use Rattle.plain_steps.specs.Steps.{StandsFor}
 use Rattle.plain_steps.proofs.Here.{now_seen}
-use Rattle.plain_sends.specs.Sends.{IsSent}
+use Rattle.plain_sends.specs.Messages.{IsMessaged}
 use Rattle.plain_evaluates.specs.Evaluates.{frames_waiting}
 use Rattle.plain_evaluates.specs.Refusing.{mark_at, is_live, Decides, MarksDecide}
 use Rattle.plain_evaluates.proofs.Blocks.{in_cell}
@@ -58,12 +59,12 @@ both_true true b e = absurd (cc)
 live_is : (mark sp : ℕ) → mark ≢ 0 → mark / 0x02000000 ≡ sp / 0x02000000 → (not (nat_eq mark 0) && nat_eq (mark / 0x02000000) (sp / 0x02000000)) ≡ true
 live_is mark sp some same = ap (λ a. not a && nat_eq (mark / 0x02000000) (sp / 0x02000000)) (ne_eqb mark 0 some) ∙ eq-eqb (mark / 0x02000000) (sp / 0x02000000) same
 
-module _ (z : Sense) (h : Host) (s : State) (b n : ℕ) (node : Node) (sel : Selector) (r : RunsAt h b n node) (q : IsSent z h s b n node sel r) (stood : StandsFor z h s) (can : CanGo h) where
+module _ (z : Sense) (h : Host) (s : State) (b n : ℕ) (node : Node) (args name : ℕ) (met : Met) (r : RunsAt h b n node) (mt : MachineState) (q : IsMessaged z h s b n node args name met r mt) (stood : StandsFor z h s) (can : CanGo h) where
   abbrev f : Frame
   f = viewed h.machine b n (frame_locals (body_in h.bodies b)) (depth (body_in h.bodies b).nodes n)
 
   abbrev waiting_now : List Frame
-  waiting_now = frames_waiting z h s b n node sel r q
+  waiting_now = frames_waiting z h s b n node args name met r mt q
 
   callers_above : (j : ℕ) (y : Frame) → slice_get (callers_of h r.view.older) j ≡ Some y → IsAbove (h.machine.regs 30) (entry_frame h.current) y
   callers_above j y e =
@@ -128,13 +129,13 @@ module _ (z : Sense) (h : Host) (s : State) (b n : ℕ) (node : Node) (sel : Sel
     value = subst (λ (v : Value). IsValue z.cells z.places v w) receiver q.send.message.receiver
 
     -- the words at the trap are those of the heap
-    mark_same : mark_at q.asks.to ≡ mark
+    mark_same : mark_at mt ≡ mark
     mark_same =
         let m = h.machine in
         let has = block_there (raw_of h) s z stood.stands w maker block value in
         let outer : word_at mem (w + 7) ≡ word_at m.memory (w + 7) = same_word m.memory (w + 7) (in_cell w 7 has.block refl (omega arith)) in
         let inner : word_at mem (word_at mem (w + 7) + 7) ≡ word_at m.memory (word_at mem (w + 7) + 7) = same_word m.memory (word_at mem (w + 7) + 7) (in_cell (word_at mem (w + 7)) 7 has.context refl (omega arith)) in
-        ap (λ (y : Words). word_at y (word_at y (q.asks.to.regs 8 + 7) + 7)) q.asks.moved.memory_is
+        ap (λ (y : Words). word_at y (word_at y (mt.regs 8 + 7) + 7)) q.moved.memory_is
         ∙ ap (λ k. word_at m.memory (word_at m.memory (k + 7) + 7)) (sym q.receiver_is)
         ∙ ap (λ k. word_at m.memory (k + 7)) (sym outer)
         ∙ sym inner
@@ -142,12 +143,12 @@ module _ (z : Sense) (h : Host) (s : State) (b n : ℕ) (node : Node) (sel : Sel
     abbrev found : Option Frame
     found = maker_frame mem q.words waiting_now
 
-    live_found : is_live q.asks.to ≡ true → (y : Frame) × (found ≡ Some y)
+    live_found : is_live mt ≡ true → (y : Frame) × (found ≡ Some y)
     live_found e =
-        let both = both_true (nat_eq (mark_at q.asks.to) 0) (nat_eq (mark_at q.asks.to / 0x02000000) (q.asks.to.regs 14 / 0x02000000)) e in
+        let both = both_true (nat_eq (mark_at mt) 0) (nat_eq (mark_at mt / 0x02000000) (mt.regs 14 / 0x02000000)) e in
         let some : nat_eq mark 0 ≡ false = ap (λ k. nat_eq k 0) (sym mark_same) ∙ both.0 in
         let stack : mark / 0x02000000 ≡ h.machine.regs 14 / 0x02000000 =
-        ap (λ k. k / 0x02000000) (sym mark_same) ∙ eqb-true (mark_at q.asks.to / 0x02000000) (q.asks.to.regs 14 / 0x02000000) both.1 ∙ ap (λ k. k / 0x02000000) (q.asks.moved.kept 14 refl) in
+        ap (λ k. k / 0x02000000) (sym mark_same) ∙ eqb-true (mark_at mt / 0x02000000) (mt.regs 14 / 0x02000000) both.1 ∙ ap (λ k. k / 0x02000000) (q.moved.kept 14 refl) in
         let read = read_block (raw_of h).maps mem (raw_of h).heap z.cells z.places s.things z.made stood.stands.heap w maker block value in
         let below : maker < length z.made = (let lt = slice_get_within z.places.contexts maker (word_at mem (w + 7)) read.context in let same = stood.stands.heap.means.contexts_all in omega arith) in
         let got = got_if z.made maker below in
@@ -167,23 +168,23 @@ module _ (z : Sense) (h : Host) (s : State) (b n : ℕ) (node : Node) (sel : Sel
             let y = ours_waiting live.frame live.is_frame (ap (λ k. k / 0x02000000) same ∙ stack) in
             (y.0, cond-false (nat_eq mark 0) None (find (has_mark mark) waiting_now) some ∙ ap (λ k. find (has_mark k) waiting_now) (sym same) ∙ y.1)
 
-    found_live : (y : Frame) → found ≡ Some y → is_live q.asks.to ≡ true
+    found_live : (y : Frame) → found ≡ Some y → is_live mt ≡ true
     found_live y e =
         let there = marked_there mark waiting_now y e in
         let ours = waiting_ours there.height y there.there in
-        let same : y.mark ≡ mark_at q.asks.to = there.marked ∙ sym mark_same in
-        live_is (mark_at q.asks.to) (q.asks.to.regs 14) (λ bad. ours.some (same ∙ bad)) (ap (λ k. k / 0x02000000) (sym same) ∙ ours.stack ∙ ap (λ k. k / 0x02000000) (sym (q.asks.moved.kept 14 refl)))
+        let same : y.mark ≡ mark_at mt = there.marked ∙ sym mark_same in
+        live_is (mark_at mt) (mt.regs 14) (λ bad. ours.some (same ∙ bad)) (ap (λ k. k / 0x02000000) (sym same) ∙ ours.stack ∙ ap (λ k. k / 0x02000000) (sym (q.moved.kept 14 refl)))
 
-    gone_by : (x : Option Frame) → found ≡ x → is_live q.asks.to ≡ false → found ≡ None
+    gone_by : (x : Option Frame) → found ≡ x → is_live mt ≡ false → found ≡ None
     gone_by None e gone = e
     gone_by (Some y) e gone = let bad : true ≡ false = sym (found_live y e) ∙ gone in absurd (cc)
 
-    pub decides : Decides z h s b n node sel r q
+    pub decides : Decides z h s b n node args name met r mt q
     decides =
         let m = h.machine in
         let has = block_there (raw_of h) s z stood.stands w maker block value in
-        let outer : word_at mem (w + 7) ≡ word_at q.asks.to.memory (q.asks.to.regs 8 + 7) =
-        same_word m.memory (w + 7) (in_cell w 7 has.block refl (omega arith)) ∙ ap (λ k. word_at m.memory (k + 7)) q.receiver_is ∙ ap (λ (y : Words). word_at y (q.asks.to.regs 8 + 7)) (sym q.asks.moved.memory_is) in
+        let outer : word_at mem (w + 7) ≡ word_at mt.memory (mt.regs 8 + 7) =
+        same_word m.memory (w + 7) (in_cell w 7 has.block refl (omega arith)) ∙ ap (λ k. word_at m.memory (k + 7)) q.receiver_is ∙ ap (λ (y : Words). word_at y (mt.regs 8 + 7)) (sym q.moved.memory_is) in
         record {
           block = subst (λ (k : ℕ). IsContext k 0) q.receiver_is has.block;
           context = subst (λ (k : ℕ). IsContext k 0) outer has.context;
@@ -192,4 +193,4 @@ module _ (z : Sense) (h : Host) (s : State) (b n : ℕ) (node : Node) (sel : Sel
         }
 
 pub marks_decide : MarksDecide
-marks_decide z h s b n node sel r q stood can block maker receiver = decides z h s b n node sel r q stood can block maker receiver
+marks_decide z h s b n node args name met r mt q stood can block maker receiver = decides z h s b n node args name met r mt q stood can block maker receiver
