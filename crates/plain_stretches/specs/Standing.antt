@@ -72,6 +72,3 @@ HostsSettle = (h : Host) → IsHosted h → AllRun h → (goal cost : ℕ) → g
 abbrev pub EndsSettle : Type 0
 EndsSettle = (z : Sense) (h : Host) (s : State) → IsSound z h s → (e : EndsActivity z h s) → (goal cost : ℕ) → goal ≤ 1000000000 → IsSound e.sense (ends goal cost (with_machine h e.to)) (step s).state
 
--- A host that, its activity failed, stands for a state, still does with its counts settled.
-abbrev pub FailuresSettle : Type 0
-FailuresSettle = (z : Sense) (h : Host) (s : State) (e : ErrorName) (p : Place) → IsHosted h → AllRun h → h.current < 4 → StandsFor z (failed e p h) s → (goal cost : ℕ) → goal ≤ 1000000000 → IsSound z (fails goal cost e p h) s

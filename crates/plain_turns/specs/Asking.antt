@@ -1,7 +1,5 @@
 -- What the host reads where a node has asked for a service.
-use Rattle.std.specs.Prelude.{ℕ, ◌+◌, ◌-◌, ◌*◌, ◌%◌, ◌&&◌, nat_eq, Bool, false, if◌then◌else◌, Option, Some, None, slice_get}
-use Rattle.self_terms.specs.declared.errors.ErrorName.{ErrorName}
-use Rattle.self_terms.specs.declared.errors.ErrorName.TheVariants as errors
+use Rattle.std.specs.Prelude.{ℕ, ◌+◌, ◌-◌, ◌*◌, Option, Some, None, slice_get}
 use Rattle.self_terms.specs.declared.nodes.Node.{Node}
 use Rattle.self_terms.specs.declared.nodes.Place.{Place}
 use Rattle.source_model.specs.Soundness.{body_in}
@@ -11,7 +9,6 @@ use Rattle.slot_lookup.specs.declared.sends.Found.TheVariants.{NotUnderstood}
 use Rattle.plain_runs.specs.Host.{Host, point_at}
 use Rattle.plain_runs.specs.Services.{settled}
 use Rattle.plain_lookups.specs.Telling.{found_by}
-use Rattle.plain_stretches.specs.Gate.{is_bare_sum}
 
 -- the count of steps
 abbrev pub count : Host → ℕ
@@ -53,17 +50,6 @@ goes_back bytes goal cost h =
     let s = settled goal cost h in
     record s { machine = record s.machine { pc = h.machine.pc - bytes; npc = h.machine.pc - bytes + 4 } }
 
--- whether that node is a sum or a difference that has no handler
-abbrev pub is_bare : Option Node → Bool
-is_bare (Some node) = is_bare_sum node
-is_bare None = false
-
-abbrev pub bare_sum_here : Host → Bool
-bare_sum_here h = is_bare (node_here h)
-
--- The error of one that comes to no integer: it overflows, where the words of its receiver and its argument, in %o0 and %o1, are those of integers.
-abbrev pub is_integer : ℕ → Bool
-is_integer word = nat_eq (word % 4) 0
-
-abbrev pub sum_error : Host → ErrorName
-sum_error h = if is_integer (h.machine.regs 8) && is_integer (h.machine.regs 9) then errors.Overflow else errors.BadType
+-- what is left of the plain cost
+abbrev pub cost_left : Host → ℕ
+cost_left h = 4194304 - (h.cost + h.machine.regs 3)

@@ -4,3 +4,4 @@ pub mod Resting
 pub mod Asking
 pub mod Events
 pub mod Turns
+pub mod Primitives

@@ -3,9 +3,9 @@ use Rattle.std.specs.Prelude.{◌≡◌, ℕ, zero, suc, ◌+◌, ◌*◌, ◌<�
 use Rattle.self_terms.specs.declared.bodies.Body.{Body}
 use Rattle.plain_runs.specs.Host.{Host}
 
--- the most words that the unit of a method without block literals takes
+-- the most words that the unit of a body takes: a node reaches at most 64 contexts outwards
 abbrev pub most_words : Body → ℕ
-most_words x = 26 * length x.nodes + 16 * (length x.arguments + length x.locals) + 64
+most_words x = 80 * length x.nodes + 16 * (length x.arguments + length x.locals) + 40
 
 -- those of the bodies that have no unit yet
 abbrev pub unput : List ℕ → List Body → ℕ
