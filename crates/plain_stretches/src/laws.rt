@@ -1,8 +1,8 @@
 // Laws of runs of plain code.
 ghost use Rattle.plain_stretches.specs.Polls.{PollsPass, PollsStop};
 ghost use Rattle.plain_stretches.specs.Runs.{TrapsStop};
-ghost use Rattle.plain_stretches.specs.Standing.{AnswersGoOn, EndsSettle, FailuresSettle, HostsSettle, PollsWait, StepsGoOn};
-ghost use Rattle.plain_stretches.specs.Stretches.{AnswersStretch, BlocklessUnits, PollsStretch, RunsJoin, StepJoins, StepsStretch, StretchesRun};
+ghost use Rattle.plain_stretches.specs.Standing.{AnswersGoOn, EndsSettle, HostsSettle, PollsWait, StepsGoOn};
+ghost use Rattle.plain_stretches.specs.Stretches.{PollsStretch, PrintsStretch, RunsJoin, StepJoins, StepsStretch, StretchesRun};
 
 /// A law: where a machine goes on to a trap, a run of more instructions may be made, and tells of that trap.
 pub fn goes_to_traps()
@@ -23,25 +23,22 @@ pub fn polls_come_again()
     ensures wait { PollsWait }
 {}
 
-/// A law: settling its counts leaves a host sound; and where an activity has ended, by service 9 or by an error, machine and host stand for the
-/// same state then.
+/// A law: settling its counts leaves a host sound; and where an activity has ended by service 9, machine and host stand for the same state then.
 pub fn ends_settle()
     ensures host { HostsSettle }
     ensures answer { EndsSettle }
-    ensures error { FailuresSettle }
 {}
 
 /// A law: from the poll of a node, words do so many of the source's steps and come to a trap, as the machine's run does; and so from behind a service
-/// whose words do a step, as that of a send that data answers. No unit has blocks.
+/// whose words do a step, as that of a send that data answers, or of a primitive that prints.
 pub fn words_stretch()
     ensures poll { PollsStretch }
     ensures step { StepsStretch }
-    ensures answer { AnswersStretch }
+    ensures print { PrintsStretch }
     ensures run { StretchesRun }
-    ensures blockless { BlocklessUnits }
 {}
 
-/// A law: silent runs of the source join.
+/// A law: runs of the source join.
 pub fn runs_join()
     ensures run { RunsJoin }
     ensures step { StepJoins }

@@ -1,4 +1,5 @@
 pub mod Formed
+pub mod Onward
 pub mod Back
 pub mod Running
 pub mod Places

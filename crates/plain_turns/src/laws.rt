@@ -1,5 +1,6 @@
 // Laws of turns.
-ghost use Rattle.plain_turns.specs.Turns.{AnswersEnd, AssignmentsTurn, CallsTurn, DataTurns, FieldsAreRead, GoalsEnd, MessagesAsk, MethodsAreThere, MissesEnd, ObjectsCount, OverflowsEnd, PrimitivesEnd, ReturnsEnd, RunsBegin, RunsCome, SumsEnd, TrapsTell, UnbuiltEnd, UnitsFit, UnitsTurn};
+ghost use Rattle.plain_turns.specs.Primitives.{AnswersTurn, FailuresEnd, FullsEnd, LacksEnd, PrimitivesAsk, PrimitivesMayApply, UndefinedEnd};
+ghost use Rattle.plain_turns.specs.Turns.{AnswersEnd, AssignmentsTurn, CallsTurn, DataTurns, FieldsAreRead, GoalsEnd, MarksMayBeTested, MessagesAsk, MethodsAreThere, MissesEnd, ObjectsCount, RefusalsEnd, ReturnsTurn, RunsBegin, RunsCome, StoresFill, TrapsTell, UnitsFit, UnitsTurn};
 
 /// A law: a run begins at the poll at which the current activity rests.
 pub fn runs_begin()
@@ -13,18 +14,20 @@ pub fn runs_come()
     ensures objects { ObjectsCount }
 {}
 
-/// A law: a run ends where its goal is met, where the oldest activation answers, where a sum or a difference without a handler fails, and where a
-/// service isn't built.
+/// A law: a run ends where its goal is met, where the oldest activation answers, and where a block can't be paid.
 pub fn runs_end()
     ensures goal { GoalsEnd }
     ensures answer { AnswersEnd }
-    ensures primitive { PrimitivesEnd }
-    ensures sum { SumsEnd }
-    ensures home { ReturnsEnd }
+    ensures full { StoresFill }
+{}
+
+/// A law: a return from a home method leads on in the home's caller, or ends the run.
+pub fn returns_turn()
+    ensures { ReturnsTurn }
 {}
 
 /// A law: a message leads on where data, an assignment slot or a method with a unit answers it, and from its beginning where a unit is put; it ends
-/// the run where nothing does, where there are too many activations, and where the method isn't built.
+/// the run where nothing does, and where the method is refused.
 pub fn messages_turn()
     ensures asked { MessagesAsk }
     ensures fields { FieldsAreRead }
@@ -32,9 +35,24 @@ pub fn messages_turn()
     ensures assignment { AssignmentsTurn }
     ensures missing { MissesEnd }
     ensures there { MethodsAreThere }
-    ensures method { CallsTurn }
-    ensures overflow { OverflowsEnd }
-    ensures unbuilt { UnbuiltEnd }
     ensures room { UnitsFit }
     ensures unit { UnitsTurn }
+{}
+
+/// A law: a method that a message meets is called, or refused.
+pub fn methods_turn()
+    ensures mark { MarksMayBeTested }
+    ensures method { CallsTurn }
+    ensures refused { RefusalsEnd }
+{}
+
+/// A law: a primitive that was applied leads on where it has answered, and ends the run where it has failed, isn't defined, can't be paid or isn't built.
+pub fn primitives_turn()
+    ensures asked { PrimitivesAsk }
+    ensures lacks { LacksEnd }
+    ensures undefined { UndefinedEnd }
+    ensures may { PrimitivesMayApply }
+    ensures full { FullsEnd }
+    ensures failure { FailuresEnd }
+    ensures answer { AnswersTurn }
 {}

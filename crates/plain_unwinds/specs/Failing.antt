@@ -10,7 +10,7 @@ use Rattle.sparc_store.specs.Words.{word_at}
 use Rattle.sparc_machine.specs.State.{MachineState}
 use Rattle.source_model.specs.declared.objects.Content.TheVariants.{Method}
 use Rattle.source_model.specs.Messages.{Missing, Holds}
-use Rattle.source_model.specs.State.{Activation, Running, State}
+use Rattle.source_model.specs.State.{Activation, Running, Failed, State, with_current}
 use Rattle.source_model.specs.Step.{done, place_of, step}
 use Rattle.raw_steps.specs.Sends.{here_of}
 use Rattle.raw_steps.specs.Stands.{Sense}
@@ -49,3 +49,17 @@ abbrev pub OverflowFails : Type 0
 OverflowFails = (z : Sense) (h : Host) (s : State) (b n : ℕ) (node : Node) (sel : Selector) (r : RunsAt h b n node) (q : IsSent z h s b n node sel r) → StandsFor z h s → CanGo h
     → (o : ℕ) (c : BodyId) → met_of node s q.sender ≡ Holds o (Method c) → o < length s.things → 4096 ≤ q.asks.to.regs 4 → (goal cost : ℕ) → goal ≤ 1000000000
     → Fails goal cost (with_machine h q.asks.to) s errors.StackOverflow (place_of s q.sender)
+
+-- Where the service has ended the current activity with this error, at this place, whatever its step is, machine and host stand for the state in which
+-- it has.
+pub record EndsBy (goal cost : ℕ) (h : Host) (s : State) (e : ErrorName) (p : Place) : Type 0 where
+  pub hosted : IsHosted (fails_unmarked goal cost e p h)
+  pub left : word_at (fails_unmarked goal cost e p h).machine.memory 0x30000004 ≡ cost
+  pub top : (fails_unmarked goal cost e p h).machine.regs 6 ≡ h.machine.regs 6
+  pub sense : Sense
+  pub stands : StandsFor sense (fails_unmarked goal cost e p h) (with_current (Failed e p) s)
+
+-- so it is at a node, while nothing but scratch registers has changed since its poll
+abbrev pub ActivitiesEnd : Type 0
+ActivitiesEnd = (z : Sense) (h : Host) (s : State) (b n : ℕ) (node : Node) → StandsFor z h s → RunsAt h b n node → CanGo h
+    → (e : ErrorName) (place : Place) (to : MachineState) (p : ℕ) → Moved h.machine to p h.machine.memory (h.machine.regs 2) → (goal cost : ℕ) → goal ≤ 1000000000 → EndsBy goal cost (with_machine h to) s e place
