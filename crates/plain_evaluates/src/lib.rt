@@ -8,6 +8,4 @@
 
 mod laws;
 
-pub use laws::{
-    blocks_are_entered, entries_are_refused, marks_decide, methods_are_entered,
-};
+pub use laws::{blocks_are_entered, entries_are_refused, marks_decide, methods_are_entered};

@@ -20,6 +20,7 @@ use Rattle.plain_runs.specs.Course.{with_machine, CanGo}
 use Rattle.plain_runs.specs.Services.{cleared, with_left, handed, calls}
 use Rattle.plain_runs.proofs.Keeping.{SameCode, unit_kept, threads_set}
 use Rattle.plain_runs.proofs.Working.{run_kept}
+use Rattle.plain_sends.specs.Messages.{IsMessaged}
 use Rattle.plain_sends.proofs.Serving.{other, set_set}
 use Rattle.plain_sends.proofs.Settling.{Controlled, controlled, SettledTo, StillThere, settles}
 use Rattle.plain_calls.proofs.Called.{IsCalled, place_below, place_there, place_is, place_stack}
