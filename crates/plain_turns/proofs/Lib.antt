@@ -3,6 +3,7 @@ pub mod Onward
 pub mod Back
 pub mod Running
 pub mod Places
+pub mod Rooms
 pub mod Ending
 pub mod Failing
 pub mod Asked
