@@ -26,7 +26,7 @@ use Rattle.plain_words.specs.Moves.{Moved}
 use Rattle.plain_words.specs.Translating.{IsShort}
 use Rattle.plain_words.specs.Units.{frame_locals, frame_words}
 use Rattle.plain_words.proofs.Placing.{placed}
-use Rattle.plain_runs.specs.Host.{Host, point_at}
+use Rattle.plain_runs.specs.Host.{Host}
 use Rattle.plain_runs.specs.Units.{node_offset}
 use Rattle.plain_runs.specs.Course.{with_machine, code_at}
 use Rattle.plain_runs.proofs.Pointed.{next_offset}
@@ -42,7 +42,7 @@ use Rattle.plain_stretches.proofs.Gated.{gate_is}
 use Rattle.plain_turns.specs.Asking.{count, body_here, node_here, place_here, found_for, found_here, behind_poll}
 use Rattle.plain_turns.specs.Resting.{IsAtTrap}
 use Rattle.plain_turns.specs.Turns.{MessagesAsk, FieldsAreRead}
-use Rattle.plain_turns.proofs.Places.{Points, call_points, node_points, behind_place}
+use Rattle.plain_turns.proofs.Places.{Points, node_points, sent_points, sent_place}
 
 -- a node that sends has led there
 sends_at : (h : Host) (trap : ℕ) (from : State) (target : ℕ) (out : List ℕ) → (x : IsAtTrap h trap from target out) → trap ≡ 1 → Halts x.sense (with_machine h x.last) x.state x.on trap h.machine → Sends x.sense (with_machine h x.last) x.state x.on h.machine
@@ -99,10 +99,6 @@ sent_long h b n (nodes.Directed p y) sel e =
     trap_long true locals first y.args (answered_code locals first) refl ∙ ap (λ (q : Selector). q.args + 3) (same_Some y sel e)
 sent_long h b n _ sel e = absurd (none-some sel e)
 
--- the same points of a machine at another address
-points_on : (h : Host) (m : MachineState) (pc other b n : ℕ) → pc ≡ other → Points h pc b n → Points (with_machine h m) other b n
-points_on h m pc other b n e p = record { body = ap (λ k. (point_at h k).body) (sym e) ∙ p.body; number = ap (λ k. (point_at h k).node) (sym e) ∙ p.number }
-
 -- What is known at the trap of a message.
 module _ (h : Host) (from : State) (target : ℕ) (out : List ℕ) (x : IsAtTrap h 1 from target out) where
   abbrev pub at_poll : Host
@@ -133,10 +129,7 @@ module _ (h : Host) (from : State) (target : ℕ) (out : List ℕ) (x : IsAtTrap
   few = few_arguments x.on.node sent.selector sent.is ((x.on.sound.runs b).translates.short n x.on.node x.on.at.node_is)
 
   points : Points h (h.machine.pc + 4) b n
-  points =
-      let q = sent in
-      let here : q.sent.at + 4 ≡ h.machine.pc + 4 = ap (λ p. p + 4) (sym (ap (λ (m : MachineState). m.pc) q.there ∙ q.sent.asks.moved.stands.here)) in
-      points_on at_poll h.machine (q.sent.at + 4) (h.machine.pc + 4) b n here (call_points at_poll (q.sent.at + 4) b n x.on.node q.sent.behind)
+  points = sent_points x.sense at_poll x.state x.on h.machine sent
 
   pub node_is : node_here h ≡ Some x.on.node
   node_is = node_points h b n points ∙ x.on.at.node_is
@@ -145,7 +138,7 @@ module _ (h : Host) (from : State) (target : ℕ) (out : List ℕ) (x : IsAtTrap
   body_is = points.body
 
   pub place_is : place_of x.state sent.sent.sender ≡ place_here h
-  place_is = behind_place x.sense at_poll x.state x.on h.machine sent.sent.sender sent.sent.older sent.sent.is_at.here points
+  place_is = sent_place x.sense at_poll x.state x.on h.machine sent.sent.sender sent.sent.older sent.sent.is_at.here sent
 
   -- the trap stands so far behind the poll
   pub behind_is : h.machine.pc ≡ x.last.pc + behind_poll sent.selector.args
