@@ -8,4 +8,4 @@
 
 mod laws;
 
-pub use laws::{primitives_perform, words_do_steps, words_end_activities};
+pub use laws::{primitives_perform, steps_pay, words_do_steps, words_end_activities};
