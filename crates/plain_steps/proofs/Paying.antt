@@ -1,5 +1,5 @@
 -- The heap's room stays paid for.
-use Rattle.std.proofs.Common.{◌∙◌, ap, arith}
+use Rattle.std.proofs.Common.{◌+◌, ◌∙◌, ap, arith}
 use Rattle.plain_steps.specs.Paying.{StepsPay}
 
 pub steps_pay : StepsPay
