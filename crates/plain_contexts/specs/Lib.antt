@@ -1,3 +1,4 @@
 -- Activations that have contexts.
 pub mod Contexts
 pub mod Making
+pub mod Literals
