@@ -1,6 +1,6 @@
 -- Block literals, where the plain cost of a block is left and where it isn't.
-use Rattle.std.proofs.Common.{◌≡◌, ℕ, ◌+◌, ◌-◌, ◌*◌, ◌%◌, ◌^◌, ◌<◌, ◌≤◌, refl, ◌∙◌, ap, sym, subst, arith}
-use Rattle.std.specs.Prelude.{Bool, true, false, nat_le, if◌then◌else◌, List, [], ◌∷◌, Some, Ok, Err, slice_index}
+use Rattle.std.proofs.Common.{◌≡◌, ℕ, ◌+◌, ◌-◌, ◌*◌, ◌^◌, ◌<◌, ◌≤◌, refl, ◌∙◌, ap, arith}
+use Rattle.std.specs.Prelude.{Bool, true, false, nat_le, List, [], ◌∷◌, Some, Ok, Err, slice_index}
 use Rattle.std.proofs.lemmas.Bool.{cond-false}
 use Rattle.std.proofs.lemmas.Grind.{common_steps}
 use Rattle.self_terms.specs.declared.errors.ErrorName.TheVariants as errors
@@ -8,7 +8,7 @@ use Rattle.self_terms.specs.declared.nodes.Node.TheVariants as nodes
 use Rattle.self_terms.specs.declared.values.BodyId.{BodyId}
 use Rattle.self_terms.specs.declared.values.Value.TheVariants as values
 use Rattle.self_terms.specs.Depths.{depth_from}
-use Rattle.sparc_store.specs.Words.{Words, with_word}
+use Rattle.sparc_store.specs.Words.{with_word}
 use Rattle.sparc_machine.specs.State.{MachineState}
 use Rattle.sparc_machine.specs.Alu.{add}
 use Rattle.source_model.specs.Sends.{then_do, goes_on, paid}
@@ -19,8 +19,8 @@ use Rattle.heap_cells.specs.Laying.{with_words}
 use Rattle.frame_walk.specs.Places.{pending_offset}
 use Rattle.raw_steps.specs.Sends.{here_of}
 use Rattle.raw_steps.specs.Stands.{Sense}
-use Rattle.plain_words.specs.Moves.{IsReady, HasRoom, cost_left, Makes as WordsMake}
-use Rattle.plain_words.specs.Units.{frame_locals, frame_words, numbered, block_map}
+use Rattle.plain_words.specs.Moves.{IsReady, HasRoom, cost_left}
+use Rattle.plain_words.specs.Units.{frame_locals, frame_words, numbered}
 use Rattle.plain_words.specs.Code.{block_code}
 use Rattle.plain_words.proofs.Making.{block_makes, block_full}
 use Rattle.plain_runs.specs.Host.{Host}
