@@ -31,7 +31,7 @@ use Rattle.plain_steps.specs.Paying.{IsPaid, IsBlocksMap, HasMaps}
 use Rattle.plain_steps.specs.Steps.{StandsFor}
 use Rattle.plain_steps.proofs.Here.{at_node_of}
 use Rattle.plain_steps.proofs.Words.{room_of}
-use Rattle.plain_contexts.specs.Literals.{IsFullHere, Literal, Made, Full}
+use Rattle.plain_contexts.specs.Literals.{IsFullHere, Literal, Made, Full, LiteralsMake}
 use Rattle.plain_contexts.specs.Making.{Makes, CanMake}
 use Rattle.plain_contexts.proofs.Making.{blocks_made}
 
@@ -137,3 +137,6 @@ pub literal_makes : (z : Sense) (h : Host) (s : State) (b n : ℕ) (body : BodyI
 literal_makes z h s b n body f r can start is_paid maps outer there is little =
     let its_map = maps.blocks body.0 outer there is in
     by_left z h s b n body f r can start is_paid its_map (omega (arith, its_map.there, maps.few)) little (nat_le (add (h.machine.regs 3) 4) (cost_left h.machine)) refl
+
+pub literals_make : LiteralsMake
+literals_make z h s b n body f r can start is_paid maps outer there is = literal_makes z h s b n body f r can start is_paid maps outer there is (omega (arith, there.1, maps.bodies))
