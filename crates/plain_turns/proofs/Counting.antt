@@ -105,10 +105,10 @@ pub objects_fit : (maps : List Slots) (mem : Words) (heap : Heap) (h : Cells) (p
 objects_fit maps mem heap h p things made is =
     let row = is.laid.row in
     let numbered : (n : ℕ) → n < length things → IsIn n (numbers row.cells) = λ n lt. (
-      let w = get_or p.objects n 0 in
-      let t = get_or things n (Bytes []) in
-      let o = is.means.object n w t (slice_get-get_or p.objects n 0 (omega (arith, is.means.objects_all, lt))) (slice_get-get_or things n (Bytes []) lt) in
-      let there : cell_at 0x20000000 row.cells (w - 1) ≡ Some o.cell = ap (λ (f : Cells). f (w - 1)) (sym row.are) ∙ o.there.1 in
-      let P : ℕ → Type 0 = λ k. IsIn k (numbers row.cells) in
-      subst P (thing_number maps h p n t o.cell o.is) (number_at row.cells 0x20000000 (w - 1) o.cell there)) in
+    let w = get_or p.objects n 0 in
+    let t = get_or things n (Bytes []) in
+    let o = is.means.object n w t (slice_get-get_or p.objects n 0 (omega (arith, is.means.objects_all, lt))) (slice_get-get_or things n (Bytes []) lt) in
+    let there : cell_at 0x20000000 row.cells (w - 1) ≡ Some o.cell = ap (λ (f : Cells). f (w - 1)) (sym row.are) ∙ o.there.1 in
+    let P : ℕ → Type 0 = λ k. IsIn k (numbers row.cells) in
+    subst P (thing_number maps h p n t o.cell o.is) (number_at row.cells 0x20000000 (w - 1) o.cell there)) in
     omega (arith, all_in (length things) (numbers row.cells) numbered, numbers_fit row.cells, is.numbered, row.ends, is.laid.end.within)

@@ -260,9 +260,9 @@ module _ (h : Host) (from : State) (target : ℕ) (out : List ℕ) (x : IsAtTrap
           (was.answers z.cells z.places z.made s message.receiver message.arguments operands.0 (known core k) operands.1 arguments) in (
             a.1,
             errs e built
-            (done_by_effect s q.performed.sender q.performed.older q.name q.args q.implied q.handler (Failure e) (effect_is ∙ a.0)
-            ∙ fails_bare s q.performed.sender q.performed.older message (row_of (text_named s.names q.name.0) q.args) q.handler e same.handles)
-            goal few,
+                (done_by_effect s q.performed.sender q.performed.older q.name q.args q.implied q.handler (Failure e) (effect_is ∙ a.0)
+                ∙ fails_bare s q.performed.sender q.performed.older message (row_of (text_named s.names q.name.0) q.args) q.handler e same.handles)
+                goal few,
           )
 
       answer_turns : gated_step x.state ≡ step x.state → (core : CoreWords) → KnowsWords h from.core core → (words : ℕ) → Costs h p words → h.cost + h.machine.regs 3 + words ≤ 4194304
