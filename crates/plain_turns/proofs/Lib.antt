@@ -4,7 +4,8 @@ pub mod Back
 pub mod Running
 pub mod Places
 pub mod Ending
-pub mod Failing
+pub mod Counting
+pub mod Primitives
 pub mod Asked
 pub mod Telling
 pub mod Answering
