@@ -355,4 +355,4 @@ failures_end h from target out x p args o core k memory heap e was goal few =
 pub answers_turn : AnswersTurn
 answers_turn h from target out x p args o core k words is fits memory heap word was line tells =
     let b = bare_of h from target out x o.name args o.implied o.node_is in
-    answer_turns h from target out x b.performs p args o b.built core k words is fits memory heap word was line tells ?
+    answer_turns h from target out x b.performs p args o b.built core k words is fits memory heap word was line tells was.within
