@@ -94,6 +94,8 @@ answers : (z : Sense) (h : Host) (s : State) (on : IsOn z h s) → CanGo h → g
 answers z h s on can built zero step last = ends z h s on can built (last refl)
 answers z h s on can built (suc o) step last = Steps built (step o refl)
 
+-- Primitives.
+
 -- a primitive's code has two words and more
 some_primitive : (sum less implied : Bool) (locals k n : ℕ) → 1 ≤ length (if sum then sum_code less implied locals k n else (handed_code implied locals k n ++ (Trap 3 ∷ [])))
 some_primitive true less implied locals k n = omega (arith, length-append (handed_code implied locals k n) (summed_code less))
@@ -110,9 +112,7 @@ two_words h b n name args implied handler =
       some_primitive (is_sum name.0 args) (nat_eq name.0 INT_SUB.0) implied locals first (args + one_if handler),
     )
 
--- Primitives.
-
--- whether one is summed, by the message of an activity
+-- whether a primitive comes to an integer, by its message
 abbrev summed_of : (z : Sense) (h : Host) (s : State) (b n : ℕ) (name : Name) (args : ℕ) (implied handler : Bool) (r : RunsAt h b n (nodes.Prim name args implied handler)) → IsSound z h s → Bool
 summed_of z h s b n name args implied handler r x = (let y = at_node_of z h s b n (nodes.Prim name args implied handler) x.stands r in is_summed name.0 args (asked args implied handler (here_of s y.young y.older)))
 
