@@ -4,6 +4,7 @@ pub mod Walk
 pub mod Written
 pub mod Changed
 pub mod Failing
+pub mod Ended
 pub mod Taken
 pub mod Trapped
 pub mod Returning
