@@ -97,7 +97,7 @@ next_offset r b n node e =
     omega (arith, w, z)
 
 -- a word of a node says what the node's points do
-pub node_point : (h : Host) (b at n j : ℕ) (node : Node) (p : Point) → HasUnit h b at → slice_get (body_of h b).nodes n ≡ Some node
+node_point : (h : Host) (b at n j : ℕ) (node : Node) (p : Point) → HasUnit h b at → slice_get (body_of h b).nodes n ≡ Some node
     → j < length (poll ++ node_code h.references (owns_context (body_of h b)) (frame_locals (body_of h b)) (words_before h.references (owns_context (body_of h b)) (frame_locals (body_of h b)) 0 0 (body_of h b).nodes n) node (depth_from 0 (body_of h b).nodes n))
     → slice_get (node_points b n node (depth_from 0 (body_of h b).nodes n) (length (poll ++ node_code h.references (owns_context (body_of h b)) (frame_locals (body_of h b)) (words_before h.references (owns_context (body_of h b)) (frame_locals (body_of h b)) 0 0 (body_of h b).nodes n) node (depth_from 0 (body_of h b).nodes n)))) j ≡ Some p
     → point_at h (at + 4 * (node_offset h.references (body_of h b) n + j)) ≡ p

@@ -18,11 +18,12 @@ use Rattle.plain_runs.specs.Units.{IsBehindCall}
 use Rattle.plain_runs.specs.Sound.{RunsAt}
 use Rattle.plain_runs.specs.Course.{with_machine, code_at}
 use Rattle.plain_runs.proofs.Located.{times_is}
-use Rattle.plain_runs.proofs.Pointed.{call_descriptor, node_point}
+use Rattle.plain_runs.proofs.Pointed.{call_descriptor}
 use Rattle.plain_answers.proofs.Failing.{places_agree}
 use Rattle.plain_stretches.specs.Standing.{IsOn}
 use Rattle.plain_stretches.specs.Stretches.{Sends, Performs, Fills}
 use Rattle.plain_turns.specs.Asking.{number_here, node_here, place_here}
+use Rattle.plain_turns.proofs.Pointed.{node_point}
 
 -- what a point says, by its descriptor
 pub record Points (h : Host) (pc b n : ℕ) : Type 0 where

@@ -12,7 +12,7 @@ use Rattle.plain_runs.specs.Course.{with_machine}
 use Rattle.plain_steps.specs.Paying.{IsPaid}
 use Rattle.plain_begins.specs.Begins.{CanPark, AtPoll, Idle}
 use Rattle.plain_unwinds.specs.Services.{CanUnwind}
-use Rattle.plain_unwinds.proofs.Walkable.{can_unwind}
+use Rattle.plain_unwinds.proofs.Anywhere.{may_unwind}
 use Rattle.plain_stretches.specs.Gate.{printed}
 use Rattle.plain_stretches.specs.Standing.{IsOn}
 use Rattle.plain_stretches.specs.Stretches.{Ends, Halts, AtGoal, AtSend, AtPrimitive, AtLack, AtHome, AtFull, AtEnd}
@@ -141,7 +141,7 @@ service_at z h s on trap to (AtEnd e q) = inr (inr (inr (inr (inr e))))
 
 -- the current activity may end
 ends_at : (z : Sense) (h : Host) (s : State) (on : IsOn z h s) (trap : ℕ) (to : MachineState) → Comes_so z h s trap to → trap ≢ 9 → CanUnwind (with_machine h to)
-ends_at z h s on trap to (Stays ne p mv) other = can_unwind h on.body on.number on.node on.at on.sound.hosted on.sound.runs to p mv s z on.sound.stands
+ends_at z h s on trap to (Stays ne p mv) other = may_unwind h on.body on.number on.node on.at on.sound.hosted on.sound.runs to p mv s z on.sound.stands
 ends_at z h s on trap to (Leaves e q) other = absurd (other e)
 
 -- the word behind a trap has an address

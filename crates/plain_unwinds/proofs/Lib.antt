@@ -9,3 +9,4 @@ pub mod Taken
 pub mod Trapped
 pub mod Returning
 pub mod Walkable
+pub mod Anywhere

@@ -45,7 +45,7 @@ use Rattle.plain_unwinds.specs.Frames.{frame_behind, ending_at}
 use Rattle.plain_unwinds.specs.Returning.{AsksHome, HomeReturnsAsk, HasAnswered, Unwinds, GoesOn, Answers, HomeReturns, Leaves, HomesLeave}
 use Rattle.plain_unwinds.specs.Services.{unmarked, ended_older, home_at, taken_up_with, returns_to, answers_from_home, unwinds}
 use Rattle.plain_unwinds.proofs.Apart.{IsApart, kept_apart, hosted_ended, threads_ended}
-use Rattle.plain_unwinds.proofs.Changed.{last, last_high, last_ends, last_goal, last_left, apart_after}
+use Rattle.plain_unwinds.proofs.Changed.{last, last_high, last_ends, last_goal, apart_after}
 use Rattle.plain_unwinds.proofs.Marks.{AreMarked, are_marked, first_marked}
 use Rattle.plain_unwinds.proofs.Taken.{Resumes, c, place, back, window, resumes}
 use Rattle.plain_unwinds.proofs.Trapped.{lain, w, flat, reg, windows, counted as all_counted, first, zero_is, frames, memory_is}
@@ -96,13 +96,13 @@ module _ (z : Sense) (h : Host) (s : State) (b n : ℕ) (f : StandsFor z h s) (r
   older = r.view.older
 
   abbrev its_lain : Words
-  its_lain = lain h b n nodes.NonLocal r can.hosted can.runs to q.at mv
+  its_lain = lain h b n nodes.NonLocal r can to q.at mv
 
   abbrev its_w : Host
-  its_w = w h b n nodes.NonLocal r can.hosted can.runs to q.at mv
+  its_w = w h b n nodes.NonLocal r can to q.at mv
 
   abbrev its_frames : List Frame
-  its_frames = frames h b n nodes.NonLocal r can.hosted can.runs to q.at mv
+  its_frames = frames h b n nodes.NonLocal r can to q.at mv
 
   abbrev v : Frame
   v = viewed m b n (frame_locals (body_in h.bodies b)) (depth (body_in h.bodies b).nodes n)
@@ -115,16 +115,16 @@ module _ (z : Sense) (h : Host) (s : State) (b n : ℕ) (f : StandsFor z h s) (r
   most = ending_most its_lain older (saved_at its_lain (m.regs 14) 14) (saved_at its_lain (m.regs 14) 0)
 
   its_reg : (j : ℕ) → its_w.machine.regs j ≡ to.regs j
-  its_reg = reg h b n nodes.NonLocal r can.hosted can.runs to q.at mv
+  its_reg = reg h b n nodes.NonLocal r can to q.at mv
 
   its_flat : its_w.machine.memory ≡ its_lain
-  its_flat = flat h b n nodes.NonLocal r can.hosted can.runs to q.at mv
+  its_flat = flat h b n nodes.NonLocal r can to q.at mv
 
   counted : its_w.machine.regs 4 ≡ suc older
-  counted = all_counted h b n nodes.NonLocal r can.hosted can.runs to q.at mv
+  counted = all_counted h b n nodes.NonLocal r can to q.at mv
 
   sp_is : its_w.machine.regs 14 ≡ m.regs 14
-  sp_is = first h b n nodes.NonLocal r can.hosted can.runs to q.at mv
+  sp_is = first h b n nodes.NonLocal r can to q.at mv
 
   fewer : its_w.machine.regs 4 - 1 ≡ older
   fewer = omega (arith, counted)
@@ -191,7 +191,7 @@ module _ (z : Sense) (h : Host) (s : State) (b n : ℕ) (f : StandsFor z h s) (r
   set_memory : set.machine.memory ≡ its_last
   set_memory =
       let e : ended ≡ suc k = omega (arith, ended_is) in
-      ap (λ j. (settled goal cost (unmarked j its_w)).machine.memory) e ∙ memory_is h b n nodes.NonLocal r can.hosted can.runs to q.at mv (suc k) (omega (arith, most)) goal cost
+      ap (λ j. (settled goal cost (unmarked j its_w)).machine.memory) e ∙ memory_is h b n nodes.NonLocal r can to q.at mv (suc k) (omega (arith, most)) goal cost
 
   -- what stands behind either way
   stepped : (set.steps + 1) + 0 ≡ h.steps + m.regs 2 + 1
@@ -230,7 +230,7 @@ module _ (z : Sense) (h : Host) (s : State) (b n : ℕ) (f : StandsFor z h s) (r
     there = ap (λ (y : Window). y 15 + 8) home_is
 
     apart : IsApart h last_machine goal
-    apart = apart_after h b n nodes.NonLocal r can.hosted can.runs (take (suc k) its_frames) marked goal cost few last_machine set_memory (zero_is h b n nodes.NonLocal r can.hosted can.runs to q.at mv) (All-nil IsWindow)
+    apart = apart_after h b n nodes.NonLocal r can.hosted can.runs (take (suc k) its_frames) marked goal cost few last_machine set_memory (zero_is h b n nodes.NonLocal r can to q.at mv) (All-nil IsWindow)
 
     high_last : (a : ℕ) → 0x40000000 ≤ a → word_at its_last a ≡ word_at its_lain a
     high_last = last_high h b n nodes.NonLocal r can.hosted can.runs (take (suc k) its_frames) marked goal cost
@@ -279,8 +279,6 @@ module _ (z : Sense) (h : Host) (s : State) (b n : ℕ) (f : StandsFor z h s) (r
       goes = its_resumes.goes;
       hosted = hosted_as after.steps after.cost (with_machine h now) its_resumes.hosted;
       goal = its_resumes.goal;
-      left = its_resumes.left;
-      paid = omega (arith, its_resumes.top, its_resumes.cost);
       body = its_resumes.body;
       number = its_resumes.number;
       next = its_resumes.next;
@@ -300,7 +298,7 @@ module _ (z : Sense) (h : Host) (s : State) (b n : ℕ) (f : StandsFor z h s) (r
     word = set.machine.regs 8
 
     alone : IsApart h set.machine goal
-    alone = apart_after h b n nodes.NonLocal r can.hosted can.runs (take (suc k) its_frames) marked goal cost few set.machine set_memory (zero_is h b n nodes.NonLocal r can.hosted can.runs to q.at mv) (windows h b n nodes.NonLocal r can.hosted can.runs to q.at mv)
+    alone = apart_after h b n nodes.NonLocal r can.hosted can.runs (take (suc k) its_frames) marked goal cost few set.machine set_memory (zero_is h b n nodes.NonLocal r can to q.at mv) (windows h b n nodes.NonLocal r can to q.at mv)
 
     none_left : drop k (callers_of h older) ≡ []
     none_left =
@@ -346,20 +344,14 @@ module _ (z : Sense) (h : Host) (s : State) (b n : ℕ) (f : StandsFor z h s) (r
   goal_is : word_at set.machine.memory 0x30000000 ≡ goal
   goal_is = ap (λ (y : Words). word_at y 0x30000000) set_memory ∙ last_goal h b n nodes.NonLocal r can.hosted can.runs (take (suc k) its_frames) marked goal cost
 
-  left_is : word_at set.machine.memory 0x30000004 ≡ cost
-  left_is = ap (λ (y : Words). word_at y 0x30000004) set_memory ∙ last_left h b n nodes.NonLocal r can.hosted can.runs (take (suc k) its_frames) marked goal cost
-
-  sum : set.cost ≡ h.cost + m.regs 3
-  sum = omega (arith, costs)
-
   abbrev left_by : Bool → Host
   left_by c = if c then returns_to (saved_at its_w.machine.memory (home_at its_w) 14) (saved_at its_w.machine.memory (home_at its_w) 15 + 8) (its_w.machine.regs 4 - ended) set else answers_from_home set
 
-  leaves_by : (c : Bool) → Leaves goal cost h (left_by c) s
-  leaves_by true = record { goal_is = goal_is; left_is = left_is; top = top; settled = refl; sum = sum; steps_are = omega (arith, stepped, f.stands.steps); current = refl; runs = can.runs }
-  leaves_by false = record { goal_is = goal_is; left_is = left_is; top = top; settled = refl; sum = sum; steps_are = omega (arith, stepped, f.stands.steps); current = refl; runs = can.runs }
+  leaves_by : (c : Bool) → Leaves goal h (left_by c) s
+  leaves_by true = record { goal_is = goal_is; steps_are = omega (arith, stepped, f.stands.steps); current = refl; runs = can.runs }
+  leaves_by false = record { goal_is = goal_is; steps_are = omega (arith, stepped, f.stands.steps); current = refl; runs = can.runs }
 
-  pub leaves : Leaves goal cost h (unwinds goal cost (with_machine h to)) s
+  pub leaves : Leaves goal h (unwinds goal cost (with_machine h to)) s
   leaves = leaves_by (nat_lt ended (its_w.machine.regs 4))
 
 pub home_returns : HomeReturns

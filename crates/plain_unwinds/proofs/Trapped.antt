@@ -15,17 +15,17 @@ use Rattle.plain_words.specs.Units.{frame_locals}
 use Rattle.plain_words.proofs.Shown.{moved_window}
 use Rattle.plain_runs.specs.Host.{Host}
 use Rattle.plain_runs.specs.Services.{settled, with_left}
-use Rattle.plain_runs.specs.Sound.{IsWindow, RunsAt, IsHosted, callers_of}
-use Rattle.plain_runs.specs.Course.{with_machine, AllRun}
+use Rattle.plain_runs.specs.Sound.{IsWindow, RunsAt, callers_of}
+use Rattle.plain_runs.specs.Course.{with_machine, CanGo}
 use Rattle.plain_unwinds.specs.Frames.{contexts_at, with_all_cleared}
 use Rattle.plain_unwinds.specs.Services.{written, unmarked}
 use Rattle.plain_unwinds.proofs.Marks.{contexts_of}
 use Rattle.plain_unwinds.proofs.Walk.{contexts_shown, all_contexts_shown}
 use Rattle.plain_unwinds.proofs.Written.{flushed_regs, flushed_same, flushed_held, new, none_held, new_shows}
 
-module _ (h : Host) (b n : ℕ) (node : Node) (r : RunsAt h b n node) (hosted : IsHosted h) (run : AllRun h) (to : MachineState) (p : ℕ) (mv : Moved h.machine to p h.machine.memory (h.machine.regs 2)) where
+module _ (h : Host) (b n : ℕ) (node : Node) (r : RunsAt h b n node) (can : CanGo h) (to : MachineState) (p : ℕ) (mv : Moved h.machine to p h.machine.memory (h.machine.regs 2)) where
   abbrev pub lain : Words
-  lain = new h b n node r hosted run
+  lain = new h b n node r can.hosted can.runs
 
   abbrev pub w : Host
   w = written (with_machine h to)
@@ -37,7 +37,7 @@ module _ (h : Host) (b n : ℕ) (node : Node) (r : RunsAt h b n node) (hosted : 
   reg k = ap (λ (q : ℕ → ℕ). q k) (flushed_regs (stack_of to))
 
   none : w.machine.older ≡ []
-  none = flushed_held (stack_of h.machine) (stack_of to) mv.older (none_held h b n node r hosted run)
+  none = flushed_held (stack_of h.machine) (stack_of to) mv.older (none_held h b n node r can.hosted can.runs)
 
   pub windows : All IsWindow w.machine.older
   windows = (let P : List Window → Type 0 = λ y. All IsWindow y in subst P (sym none) (All-nil IsWindow))
@@ -52,21 +52,21 @@ module _ (h : Host) (b n : ℕ) (node : Node) (r : RunsAt h b n node) (hosted : 
   first = reg 14 ∙ mv.kept 14 refl
 
   pub zero_is : w.machine.regs 0 ≡ 0
-  zero_is = reg 0 ∙ mv.kept 0 refl ∙ hosted.register_0
+  zero_is = reg 0 ∙ mv.kept 0 refl ∙ can.hosted.register_0
 
   -- the frames of the current activity
   abbrev pub frames : List Frame
   frames = viewed h.machine b n (frame_locals (body_in h.bodies b)) (depth (body_in h.bodies b).nodes n) ∷ callers_of h r.view.older
 
   pub all_contexts : contexts_at lain (suc r.view.older) (h.machine.regs 14) ≡ contexts_of frames
-  all_contexts = sym (all_contexts_shown h lain (suc r.view.older) (h.machine.regs 14) h.machine.pc) ∙ ap contexts_of (new_shows h b n node r hosted run)
+  all_contexts = sym (all_contexts_shown h lain (suc r.view.older) (h.machine.regs 14) h.machine.pc) ∙ ap contexts_of (new_shows h b n node r can.hosted can.runs)
 
   -- memory where the marks of the youngest of them are cleared
   pub memory_is : (j : ℕ) → j ≤ suc r.view.older → (goal cost : ℕ) → (settled goal cost (unmarked j w)).machine.memory ≡ with_left (with_all_cleared lain (contexts_of (take j frames))) goal cost
   memory_is j le goal cost =
       (λ i. with_left (with_all_cleared (flat i) (contexts_at (flat i) j (first i))) goal cost)
       ∙ ap (λ (ws : List ℕ). with_left (with_all_cleared lain ws) goal cost)
-      (sym (contexts_shown h lain j (suc r.view.older) (h.machine.regs 14) h.machine.pc le) ∙ ap (λ (fs : List Frame). contexts_of (take j fs)) (new_shows h b n node r hosted run))
+      (sym (contexts_shown h lain j (suc r.view.older) (h.machine.regs 14) h.machine.pc le) ∙ ap (λ (fs : List Frame). contexts_of (take j fs)) (new_shows h b n node r can.hosted can.runs))
 
   -- and where those of all of them are
   pub all_memory_is : (goal cost : ℕ) → (settled goal cost (unmarked (w.machine.regs 4) w)).machine.memory ≡ with_left (with_all_cleared lain (contexts_of frames)) goal cost

@@ -16,8 +16,8 @@ use Rattle.plain_words.specs.Moves.{Moved}
 use Rattle.plain_words.proofs.Shown.{moved_window}
 use Rattle.plain_runs.specs.Host.{Host, raw_of, descriptor_at}
 use Rattle.plain_runs.specs.Units.{node_offset}
-use Rattle.plain_runs.specs.Sound.{IsHeld, RunsAt, IsHosted, entry_frame, ending_stub}
-use Rattle.plain_runs.specs.Course.{with_machine, AllRun}
+use Rattle.plain_runs.specs.Sound.{IsHeld, RunsAt, entry_frame, ending_stub}
+use Rattle.plain_runs.specs.Course.{with_machine, CanGo}
 use Rattle.plain_runs.proofs.Pointed.{node_within}
 use Rattle.plain_runs.proofs.Working.{held_have_room}
 use Rattle.plain_steps.specs.Steps.{StandsFor}
@@ -52,14 +52,14 @@ marked_word (f ∷ fs) are zero context is some =
     subst P same (in_heap_word (f.context + 7) (are.0 (λ z. some (sym same ∙ z))))
 marked_word (f ∷ fs) are (suc k) context is some = marked_word fs are.1 k context is some
 
-module _ (h : Host) (b n : ℕ) (node : Node) (r : RunsAt h b n node) (hosted : IsHosted h) (run : AllRun h) (to : MachineState) (p : ℕ) (mv : Moved h.machine to p h.machine.memory (h.machine.regs 2)) where
+module _ (h : Host) (b n : ℕ) (node : Node) (r : RunsAt h b n node) (can : CanGo h) (to : MachineState) (p : ℕ) (mv : Moved h.machine to p h.machine.memory (h.machine.regs 2)) where
   abbrev its_lain : Words
-  its_lain = lain h b n node r hosted run to p mv
+  its_lain = lain h b n node r can to p mv
 
   flushes : CanFlush (stack_of to)
   flushes =
       let m = h.machine in
-      let f = may_be_flushed h b n node r hosted run in
+      let f = may_be_flushed h b n node r can.hosted can.runs in
       let low : to.regs 30 ≡ m.regs 30 = ap (λ (q : Window). q 14) (moved_window m to p (m.regs 2) m.memory mv) in
       let P : ℕ → Type 0 = λ q. IsPlace q in
       let Q : ℕ → List Window → Type 0 = λ x held. All IsPlace (held_places x held) in
@@ -69,7 +69,7 @@ module _ (h : Host) (b n : ℕ) (node : Node) (r : RunsAt h b n node) (hosted : 
   goes_back : (k : ℕ) → suc k < suc r.view.older → saved_at its_lain (frame_behind its_lain k (h.machine.regs 14)) 15 + 12 < 2 ^ 32
   goes_back k lt =
       let o = r.view.older - suc k in
-      let caller = c h b n node r hosted run k o (omega (arith, lt)) in
+      let caller = c h b n node r can.hosted can.runs k o (omega (arith, lt)) in
       let x = body_in h.bodies caller.body in
       let u = caller.call.unit in
       let within = node_within h.references x caller.number caller.node caller.call.node_is in
@@ -79,21 +79,21 @@ module _ (h : Host) (b n : ℕ) (node : Node) (r : RunsAt h b n node) (hosted : 
   walked : (s : State) (z : Sense) → StandsFor z h s → AreWalked its_lain (suc r.view.older) (h.machine.regs 14)
   walked s z f =
       let its = at_node_of z h s b n node f r in
-      let its_frames = frames h b n node r hosted run to p mv in
+      let its_frames = frames h b n node r can to p mv in
       let all = current_all (raw_of h) s z f.stands its.young its.older _ _ node its.at in
       let marked = are_marked z (raw_of h) s f.stands (makes_blocks s) s.current (its.young ∷ its.older) its_frames all in
       record {
-        places = laid_places (descriptor_at h) (IsHeld h) (entry_frame h.current) ending_stub its_lain (suc r.view.older) (h.machine.regs 14) h.machine.pc (held_have_room h run) (new_laid h b n node r hosted run);
-        marks = λ k context is some. marked_word its_frames marked k context (ap (λ ws. slice_get ws k) (sym (all_contexts h b n node r hosted run to p mv)) ∙ is) some;
+        places = laid_places (descriptor_at h) (IsHeld h) (entry_frame h.current) ending_stub its_lain (suc r.view.older) (h.machine.regs 14) h.machine.pc (held_have_room h can.runs) (new_laid h b n node r can.hosted can.runs);
+        marks = λ k context is some. marked_word its_frames marked k context (ap (λ ws. slice_get ws k) (sym (all_contexts h b n node r can to p mv)) ∙ is) some;
         returns = goes_back;
       }
 
   pub can_unwind : (s : State) (z : Sense) → StandsFor z h s → CanUnwind (with_machine h to)
   can_unwind s z f =
-      let its_w = (w h b n node r hosted run to p mv).machine in
-      let flat_is = flat h b n node r hosted run to p mv in
-      let count_is = counted h b n node r hosted run to p mv in
-      let first_is = first h b n node r hosted run to p mv in
+      let its_w = (w h b n node r can to p mv).machine in
+      let flat_is = flat h b n node r can to p mv in
+      let count_is = counted h b n node r can to p mv in
+      let first_is = first h b n node r can to p mv in
       let P : Words → ℕ → ℕ → Type 0 = λ x y q. AreWalked x y q in
       record {
         flushes = flushes;
@@ -105,4 +105,4 @@ module _ (h : Host) (b n : ℕ) (node : Node) (r : RunsAt h b n node) (hosted : 
       }
 
 pub activities_may_end : ActivitiesMayEnd
-activities_may_end z h s b n node f r can to p mv = can_unwind h b n node r can.hosted can.runs to p mv s z f
+activities_may_end z h s b n node f r can to p mv = can_unwind h b n node r can to p mv s z f
