@@ -1,19 +1,19 @@
 -- What a service at a trap leads to: on, or to the end.
-use Rattle.std.proofs.Common.{◌≡◌, ◌≢◌, ℕ, zero, suc, ◌+◌, ◌-◌, ◌*◌, ◌<◌, ◌≤◌, refl, ◌∙◌, ap, sym, subst, arith, inl, inr}
+use Rattle.std.proofs.Common.{◌≡◌, ◌≢◌, ℕ, zero, suc, ◌+◌, ◌-◌, ◌*◌, ◌<◌, ◌≤◌, refl, ◌∙◌, ap, sym, subst, arith}
 use Rattle.std.specs.Prelude.{List, [], ◌∷◌, ◌++◌, Some, slice_get, slice_set}
 use Rattle.self_terms.specs.declared.errors.ErrorName.{ErrorName}
 use Rattle.self_terms.specs.declared.nodes.Place.{Place}
-use Rattle.sparc_store.specs.Words.{Words, word_at, with_word, HasWord, IsWithin}
-use Rattle.sparc_store.proofs.Placed.{put_there, put_stays_within}
+use Rattle.sparc_store.specs.Words.{Words, word_at, IsWithin}
 use Rattle.sparc_machine.specs.State.{MachineState}
 use Rattle.source_model.specs.State.{Activation, Running, Failed as Ended_by, State, Reached, silent, with_current}
 use Rattle.plain_words.specs.Moves.{Moved}
 use Rattle.plain_runs.specs.Host.{Host}
 use Rattle.plain_runs.specs.declared.status.Status.{Status}
 use Rattle.plain_runs.specs.declared.status.Status.TheVariants.{Waiting, Failed}
-use Rattle.plain_runs.specs.Services.{settled, with_left}
+use Rattle.plain_runs.specs.Services.{settled}
 use Rattle.plain_runs.specs.Course.{with_machine, AllRun, CanGo}
 use Rattle.plain_steps.specs.Paying.{IsPaid}
+use Rattle.plain_sends.proofs.Settling.{left_is as left_there}
 use Rattle.plain_begins.specs.Begins.{CanPark, Idle}
 use Rattle.plain_unwinds.specs.Services.{fails_unmarked}
 use Rattle.plain_unwinds.proofs.Ended.{activities_end_unmarked}
@@ -62,19 +62,12 @@ ready_as m ss steps cost h r = record {
   maps = record { few = r.maps.few; contexts = r.maps.contexts; blocks = r.maps.blocks };
 }
 
--- the control region says what is left of the plain cost
-cost_there : (memory : Words) (goal cost : ℕ) → IsWithin memory → word_at (with_left memory goal cost) 0x30000004 ≡ cost
-cost_there memory goal cost whole = put_there (with_word memory 0x30000000 goal) 0x30000004 cost (put_stays_within memory 0x30000000 goal whole) has_left
-  where
-    has_left : HasWord 0x30000004
-    has_left = (omega arith, inr (inr (inl (omega arith, omega arith))))
-
 -- The heap's room is still paid for once the counts are settled, where the plain cost is within its limit.
 pub paid_once_settled : (start : ℕ) (h : Host) (goal : ℕ) → IsPaid start h → IsWithin h.machine.memory → h.cost + h.machine.regs 3 ≤ 4194304 → IsPaid start (settled goal (cost_left h) h)
 paid_once_settled start h goal paid whole fits = record {
   room = paid.room;
   top = omega (arith, paid.top);
-  left = omega (arith, cost_there h.machine.memory goal (cost_left h) whole, fits);
+  left = omega (arith, left_there h.machine.memory goal (cost_left h) whole, fits);
 }
 
 module _ (h : Host) (trap : ℕ) (from : State) (target : ℕ) (out : List ℕ) (x : IsAtTrap h trap from target out) where

@@ -66,21 +66,21 @@ runs_begin h s sp pc known r running goal few =
     }
 
 -- At a trap the machine has gone on from the node's poll with nothing changed but scratch registers, or the oldest activation has answered.
-pub data Comes_so (z : Sense) (h : Host) (s : State) (trap : ℕ) (to : MachineState) : Type 0 where
-  Stays : trap ≢ 9 → (p : ℕ) → Moved h.machine to p h.machine.memory (h.machine.regs 2) → Comes_so z h s trap to
-  Leaves : trap ≡ 9 → Ends z h s to → Comes_so z h s trap to
+data HasCome (z : Sense) (h : Host) (s : State) (trap : ℕ) (to : MachineState) : Type 0 where
+  Stays : trap ≢ 9 → (p : ℕ) → Moved h.machine to p h.machine.memory (h.machine.regs 2) → HasCome z h s trap to
+  Leaves : trap ≡ 9 → Ends z h s to → HasCome z h s trap to
 
-unmoved_by : (m to there : MachineState) (p : ℕ) → to ≡ there → Moved m there p m.memory (m.regs 2) → Moved m to p m.memory (m.regs 2)
-unmoved_by m to there p e mv = let P : MachineState → Type 0 = λ y. Moved m y p m.memory (m.regs 2) in subst P (sym e) mv
+moved_to : (m to there : MachineState) (p : ℕ) → to ≡ there → Moved m there p m.memory (m.regs 2) → Moved m to p m.memory (m.regs 2)
+moved_to m to there p e mv = let P : MachineState → Type 0 = λ y. Moved m y p m.memory (m.regs 2) in subst P (sym e) mv
 
-pub comes_so : (z : Sense) (h : Host) (s : State) (on : IsOn z h s) (trap : ℕ) (to : MachineState) → Halts z h s on trap to → Comes_so z h s trap to
-comes_so z h s on trap to (AtGoal e none w) = Stays (λ nine. absurd (omega (arith, e, nine))) (h.machine.pc + 20) w.moved
-comes_so z h s on trap to (AtSend e q) = Stays (λ nine. absurd (omega (arith, e, nine))) q.sent.at (unmoved_by h.machine to q.sent.asks.to q.sent.at q.there q.sent.asks.moved)
-comes_so z h s on trap to (AtPrimitive e q) = let p = q.performs in Stays (λ nine. absurd (omega (arith, e, nine))) p.performed.at (unmoved_by h.machine to p.performed.asks.to p.performed.at p.there p.performed.asks.moved)
-comes_so z h s on trap to (AtLack e q) = let p = q.performs in Stays (λ nine. absurd (omega (arith, e, nine))) p.performed.at (unmoved_by h.machine to p.performed.asks.to p.performed.at p.there p.performed.asks.moved)
-comes_so z h s on trap to (AtHome e q) = Stays (λ nine. absurd (omega (arith, e, nine))) q.asks.at (unmoved_by h.machine to q.asks.asks.to q.asks.at q.there q.asks.asks.moved)
-comes_so z h s on trap to (AtFull e q) = Stays (λ nine. absurd (omega (arith, e, nine))) q.full.at (unmoved_by h.machine to q.full.full.to q.full.at q.there q.full.full.moved)
-comes_so z h s on trap to (AtEnd e q) = Leaves e q
+has_come : (z : Sense) (h : Host) (s : State) (on : IsOn z h s) (trap : ℕ) (to : MachineState) → Halts z h s on trap to → HasCome z h s trap to
+has_come z h s on trap to (AtGoal e none w) = Stays (λ nine. absurd (omega (arith, e, nine))) (h.machine.pc + 20) w.moved
+has_come z h s on trap to (AtSend e q) = Stays (λ nine. absurd (omega (arith, e, nine))) q.sent.at (moved_to h.machine to q.sent.asks.to q.sent.at q.there q.sent.asks.moved)
+has_come z h s on trap to (AtPrimitive e q) = let p = q.performs in Stays (λ nine. absurd (omega (arith, e, nine))) p.performed.at (moved_to h.machine to p.performed.asks.to p.performed.at p.there p.performed.asks.moved)
+has_come z h s on trap to (AtLack e q) = let p = q.performs in Stays (λ nine. absurd (omega (arith, e, nine))) p.performed.at (moved_to h.machine to p.performed.asks.to p.performed.at p.there p.performed.asks.moved)
+has_come z h s on trap to (AtHome e q) = Stays (λ nine. absurd (omega (arith, e, nine))) q.asks.at (moved_to h.machine to q.asks.asks.to q.asks.at q.there q.asks.asks.moved)
+has_come z h s on trap to (AtFull e q) = Stays (λ nine. absurd (omega (arith, e, nine))) q.full.at (moved_to h.machine to q.full.full.to q.full.at q.there q.full.full.moved)
+has_come z h s on trap to (AtEnd e q) = Leaves e q
 
 -- what is so there of the counts
 record Counts (h : Host) (s : State) (to : MachineState) : Type 0 where
@@ -88,7 +88,7 @@ record Counts (h : Host) (s : State) (to : MachineState) : Type 0 where
   pub most : h.steps + to.regs 2 ≤ s.steps + 1
   pub cost : h.cost + to.regs 3 ≤ 4194304
 
-counts_at : (z : Sense) (h : Host) (s : State) (on : IsOn z h s) (trap : ℕ) (to : MachineState) → Comes_so z h s trap to → Counts h s to
+counts_at : (z : Sense) (h : Host) (s : State) (on : IsOn z h s) (trap : ℕ) (to : MachineState) → HasCome z h s trap to → Counts h s to
 counts_at z h s on trap to (Stays ne p mv) =
     let steps : h.steps + h.machine.regs 2 ≡ s.steps = on.sound.stands.stands.steps in
     let cost : h.cost + h.machine.regs 3 ≡ s.cost = on.sound.stands.stands.cost in
@@ -127,7 +127,7 @@ runs_come h from target out most g far =
         stands = x.stands;
         halts = x.halts;
       };
-      counts = let c = counts_at x.sense (with_machine h x.last) x.state x.on x.trap x.to (comes_so x.sense (with_machine h x.last) x.state x.on x.trap x.to x.halts) in omega (arith, c.least, x.counted);
+      counts = let c = counts_at x.sense (with_machine h x.last) x.state x.on x.trap x.to (has_come x.sense (with_machine h x.last) x.state x.on x.trap x.to x.halts) in omega (arith, c.least, x.counted);
     }
 
 service_at : (z : Sense) (h : Host) (s : State) (on : IsOn z h s) (trap : ℕ) (to : MachineState) → Halts z h s on trap to → (trap ≡ 1) ⊎ (trap ≡ 2) ⊎ (trap ≡ 3) ⊎ (trap ≡ 4) ⊎ (trap ≡ 8) ⊎ (trap ≡ 9)
@@ -140,12 +140,12 @@ service_at z h s on trap to (AtFull e q) = inr (inr (inr (inr (inl e))))
 service_at z h s on trap to (AtEnd e q) = inr (inr (inr (inr (inr e))))
 
 -- the current activity may end
-ends_at : (z : Sense) (h : Host) (s : State) (on : IsOn z h s) (trap : ℕ) (to : MachineState) → Comes_so z h s trap to → trap ≢ 9 → CanUnwind (with_machine h to)
+ends_at : (z : Sense) (h : Host) (s : State) (on : IsOn z h s) (trap : ℕ) (to : MachineState) → HasCome z h s trap to → trap ≢ 9 → CanUnwind (with_machine h to)
 ends_at z h s on trap to (Stays ne p mv) other = may_unwind h on.body on.number on.node on.at on.sound.hosted on.sound.runs to p mv s z on.sound.stands
 ends_at z h s on trap to (Leaves e q) other = absurd (other e)
 
 -- the word behind a trap has an address
-next_at : (z : Sense) (h : Host) (s : State) (trap : ℕ) (to : MachineState) → Comes_so z h s trap to → to.pc < 0x12000000 → to.npc + 4 < 2 ^ 32
+next_at : (z : Sense) (h : Host) (s : State) (trap : ℕ) (to : MachineState) → HasCome z h s trap to → to.pc < 0x12000000 → to.npc + 4 < 2 ^ 32
 next_at z h s trap to (Stays ne p mv) low = omega (arith, low, mv.stands.here, mv.stands.next)
 next_at z h s trap to (Leaves e q) low = ?
 
@@ -156,7 +156,7 @@ pub traps_tell : TrapsTell
 traps_tell h trap from target out x =
     let v = x.on.at.view in
     let at = with_machine h x.last in
-    let come = comes_so x.sense at x.state x.on trap h.machine x.halts in
+    let come = has_come x.sense at x.state x.on trap h.machine x.halts in
     let c = counts_at x.sense at x.state x.on trap h.machine come in
     record {
       service = service_at x.sense at x.state x.on trap h.machine x.halts;

@@ -1,9 +1,8 @@
 -- An activity ends by any error, at any place.
-use Rattle.std.proofs.Common.{◌≡◌, ℕ, ◌+◌, refl, ◌∙◌, ap, sym, subst, arith, inl, inr}
+use Rattle.std.proofs.Common.{◌≡◌, ℕ, ◌+◌, refl, ◌∙◌, ap, sym, subst, arith}
 use Rattle.std.specs.Prelude.{◌∷◌, slice_set}
 use Rattle.self_terms.specs.Depths.{depth}
-use Rattle.sparc_store.specs.Words.{Words, word_at, with_word, HasWord, IsWithin}
-use Rattle.sparc_store.proofs.Placed.{put_there, put_stays_within}
+use Rattle.sparc_store.specs.Words.{Words, word_at}
 use Rattle.source_model.specs.Soundness.{body_in}
 use Rattle.source_model.specs.State.{Failed as Ended_by, with_current}
 use Rattle.frame_walk.specs.Raw.{Raw, Failed as Failure}
@@ -16,25 +15,15 @@ use Rattle.plain_words.specs.Showing.{viewed}
 use Rattle.plain_words.specs.Units.{frame_locals}
 use Rattle.plain_runs.specs.Host.{raw_of, heap_words}
 use Rattle.plain_runs.specs.declared.status.Status.TheVariants.{Waiting, Failed}
-use Rattle.plain_runs.specs.Services.{with_left}
 use Rattle.plain_runs.specs.Sound.{callers_of}
 use Rattle.plain_runs.specs.Course.{with_machine}
 use Rattle.plain_steps.proofs.Here.{at_node_of}
 use Rattle.plain_unwinds.specs.Failing.{ActivitiesEnd}
-use Rattle.plain_unwinds.specs.Frames.{with_all_cleared}
 use Rattle.plain_unwinds.specs.Services.{fails_unmarked}
 use Rattle.plain_unwinds.proofs.Apart.{kept_apart, hosted_ended, threads_ended}
-use Rattle.plain_unwinds.proofs.Changed.{last, last_ends, apart_after}
-use Rattle.plain_unwinds.proofs.Marks.{contexts_of, all_alone, are_marked}
+use Rattle.plain_unwinds.proofs.Changed.{last, last_ends, last_left, apart_after}
+use Rattle.plain_unwinds.proofs.Marks.{are_marked}
 use Rattle.plain_unwinds.proofs.Trapped.{reg, windows, zero_is, all_memory_is}
-use Rattle.plain_unwinds.proofs.Written.{new, new_within}
-
--- the control region says what is left of the plain cost
-left_there : (memory : Words) (goal cost : ℕ) → IsWithin memory → word_at (with_left memory goal cost) 0x30000004 ≡ cost
-left_there memory goal cost whole = put_there (with_word memory 0x30000000 goal) 0x30000004 cost (put_stays_within memory 0x30000000 goal whole) has_left
-  where
-    has_left : HasWord 0x30000004
-    has_left = (omega arith, inr (inr (inl (omega arith, omega arith))))
 
 pub activities_end_unmarked : ActivitiesEnd
 activities_end_unmarked z h s b n node f r can e place to p mv goal cost few =
@@ -45,8 +34,6 @@ activities_end_unmarked z h s b n node f r can e place to p mv goal cost few =
     let its = at_node_of z h s b n node f r in
     let all = current_all (raw_of h) s z f.stands its.young its.older v callers node its.at in
     let marked = are_marked z (raw_of h) s f.stands (makes_blocks s) s.current (its.young ∷ its.older) frames all in
-    let lain = new h b n node r can.hosted can.runs in
-    let alone = all_alone lain frames (new_within h b n node r can.hosted can.runs) marked in
     let lst = last h b n node r can.hosted can.runs frames marked goal cost in
     let after = fails_unmarked goal cost e place (with_machine h to) in
     let mF = after.machine in
@@ -71,7 +58,7 @@ activities_end_unmarked z h s b n node f r can e place to p mv goal cost few =
     let core = core_stays z raw.to (raw_of h) there s t f.core raw.grows refl (record { names = refl; core = refl; fixed = refl; bodies = refl }) in
     record {
       hosted = hosted_ended h mF (Failed e place) after.steps after.cost kept.hosted;
-      left = ap (λ (y : Words). word_at y 0x30000004) memory ∙ left_there (with_all_cleared lain (contexts_of frames)) goal cost alone.within;
+      left = ap (λ (y : Words). word_at y 0x30000004) memory ∙ last_left h b n node r can.hosted can.runs frames marked goal cost;
       top = its_reg 6;
       sense = raw.to;
       stands = record {
