@@ -2,6 +2,7 @@ pub mod Formed
 pub mod Onward
 pub mod Back
 pub mod Running
+pub mod Pointed
 pub mod Places
 pub mod Ending
 pub mod Counting
