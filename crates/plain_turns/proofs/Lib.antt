@@ -4,6 +4,7 @@ pub mod Back
 pub mod Running
 pub mod Pointed
 pub mod Places
+pub mod Rooms
 pub mod Ending
 pub mod Counting
 pub mod Primitives
