@@ -9,3 +9,4 @@ pub mod Asked
 pub mod Telling
 pub mod Answering
 pub mod Putting
+pub mod Returning
