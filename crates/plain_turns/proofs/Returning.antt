@@ -1,7 +1,6 @@
 -- A return from a home method leads on, or ends the run.
 use Rattle.std.proofs.Common.{◌≡◌, ◌≢◌, ℕ, zero, suc, ◌+◌, ◌-◌, ◌<◌, ◌≤◌, refl, ◌∙◌, ap, sym, subst, arith, append-nil}
-use Rattle.std.specs.Prelude.{Bool, true, false, nat_lt, if◌then◌else◌, List, [], ◌∷◌, ◌++◌, Option, Some, None, slice_get}
-use Rattle.self_terms.specs.declared.nodes.Node.TheVariants as nodes
+use Rattle.std.specs.Prelude.{Bool, true, false, nat_lt, if◌then◌else◌, List, [], ◌∷◌, Option, Some, None, slice_get}
 use Rattle.self_terms.specs.declared.values.Value.{Value}
 use Rattle.sparc_store.specs.Windows.{saved_at}
 use Rattle.sparc_machine.specs.State.{MachineState}

@@ -1,6 +1,6 @@
 -- A method that a message meets is called, or refused.
-use Rattle.std.proofs.Common.{◌≡◌, ◌≢◌, ℕ, suc, ◌+◌, ◌-◌, ◌<◌, ◌≤◌, refl, ◌∙◌, ap, sym, subst, arith, append-nil}
-use Rattle.std.specs.Prelude.{List, [], ◌∷◌, ◌++◌, Option, Some, None, Err, slice_get}
+use Rattle.std.proofs.Common.{◌≡◌, ◌≢◌, ℕ, suc, ◌+◌, ◌-◌, ◌≤◌, refl, ◌∙◌, ap, sym, subst, arith, append-nil}
+use Rattle.std.specs.Prelude.{List, [], Option, Some, None, Err, slice_get}
 use Rattle.self_terms.specs.declared.errors.ErrorName.{ErrorName}
 use Rattle.self_terms.specs.declared.nodes.Node.{Node}
 use Rattle.self_terms.specs.declared.nodes.Node.TheVariants as nodes
@@ -15,7 +15,7 @@ use Rattle.source_model.specs.State.{Activation, State}
 use Rattle.source_model.specs.Step.{done}
 use Rattle.raw_steps.specs.Sends.{here_of}
 use Rattle.plain_runs.specs.Host.{Host}
-use Rattle.plain_runs.specs.Services.{with_left, settled, calls}
+use Rattle.plain_runs.specs.Services.{settled, calls}
 use Rattle.plain_runs.specs.Course.{with_machine}
 use Rattle.plain_steps.specs.Paying.{IsPaid, HasMaps}
 use Rattle.plain_steps.specs.Steps.{DoesStep}
