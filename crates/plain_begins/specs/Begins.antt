@@ -1,5 +1,5 @@
 -- An activity of a method begins.
-use Rattle.std.specs.Prelude.{◌≡◌, ◌≢◌, ℕ, ◌<◌, false, [], ◌∷◌, ◌++◌, length, Some, None, Ok, slice_get}
+use Rattle.std.specs.Prelude.{◌≡◌, ◌≢◌, ℕ, ◌+◌, ◌*◌, ◌<◌, false, [], ◌∷◌, ◌++◌, length, Some, None, Ok, slice_get}
 use Rattle.self_terms.specs.declared.nodes.Node.{Node}
 use Rattle.self_terms.specs.declared.values.BodyId.{BodyId}
 use Rattle.self_terms.specs.declared.values.Value.TheVariants as values
@@ -57,13 +57,16 @@ pub data CanPark (h : Host) : Type 0 where
   Idle : ((sp pc count : ℕ) → slice_get h.statuses h.current ≢ Some (Waiting sp pc count)) → CanPark h
 
 -- The activity has begun: machine and host stand for the state that the source enters, at the poll of the first node. What was left of the
--- goal still stands there, and no step is counted.
+-- goal and of the plain cost still stands there, no step is counted, and what was put at the heap's top is paid for.
 pub record Began (z : Sense) (h to : Host) (s : State) (o : ℕ) (c : BodyId) : Type 0 where
   pub hosted : IsHosted to
   pub all : AllRun to
   pub current : to.current < 4
   pub goal : word_at to.machine.memory 0x30000000 ≡ word_at h.machine.memory 0x30000000
+  pub left : word_at to.machine.memory 0x30000004 ≡ word_at h.machine.memory 0x30000004
   pub counted : to.machine.regs 2 ≡ h.machine.regs 2
+  pub sum : to.cost ≡ h.cost
+  pub paid : to.machine.regs 6 + 4 * h.machine.regs 3 ≡ h.machine.regs 6 + 4 * to.machine.regs 3
   pub first : Node
   pub runs : RunsAt to c.0 0 first
   pub state : State

@@ -19,7 +19,6 @@ use Rattle.plain_words.specs.Translating.{CanTranslate}
 use Rattle.plain_runs.specs.Host.{Host}
 use Rattle.plain_answers.specs.Found.{IsMethod, error_of}
 use Rattle.plain_lookups.specs.Telling.{MayLook}
-use Rattle.plain_stretches.specs.Gate.{is_blockless, may_enter}
 use Rattle.plain_turns.specs.Resting.{Rests}
 
 -- the number of the message, what it meets at the lobby, and what the host's lookup from the lobby's word finds
@@ -42,8 +41,8 @@ refusal (One holder (Field place)) = Some (codes "not a method")
 refusal (One holder (Assign place)) = Some (codes "not a method")
 refusal (One holder (Method c)) = None
 
--- A method was found: the message meets that of the object whose word this is. Its body is there, and has its entry; where the text takes no
--- arguments, neither does it; and the gate in front of what isn't built asks for that body.
+-- A method was found: the message meets that of the object whose word this is. Its body is there, and has its entry; and where the text takes no
+-- arguments, neither does it.
 pub record IsLobbyMethod (h : Host) (s : State) (r : Rests h s) (text : List ℕ) (holder : ℕ) (c : BodyId) : Type 0 where
   pub met : IsMethod r.sense s (lobby_meets s text) holder c
   pub given : HasBody h.bodies c.0
@@ -51,17 +50,14 @@ pub record IsLobbyMethod (h : Host) (s : State) (r : Rests h s) (text : List ℕ
   pub entry : ℕ
   pub entry_is : slice_get h.entries (c.0 - 1) ≡ Some entry
   pub low : entry ≤ 0x12000000
-  pub gate : may_enter s (lobby_meets s text) ≡ is_blockless (body_in h.bodies c.0)
   pub arguments : arity text ≡ 0 → length (body_in h.bodies c.0).arguments ≡ 0
 
--- The lookup may be made, and tells what the message meets and how the command ends, where it has no method; the gate in front of what isn't built
--- asks nothing of it then.
+-- The lookup may be made, and tells what the message meets and how the command ends, where it has no method.
 pub record Tells (h : Host) (q : Reached) (r : Rests h q.state) (text : List ℕ) (lobby room : ℕ) : Type 0 where
   pub may : MayLook h.maps h.machine.memory room lobby
   pub missing : (e : ErrorName) → error_of (lobby_finds room h lobby (message q.state text)) ≡ Some e → lobby_meets q.state text ≡ Missing e
   pub method : (holder : ℕ) (c : BodyId) → lobby_finds room h lobby (message q.state text) ≡ One holder (Method c) → IsLobbyMethod h q.state r text holder c
   pub refuses : (why : List ℕ) → refusal (lobby_finds room h lobby (message q.state text)) ≡ Some why → length h.statuses < 4 → (stop : ℕ) → command (Spawn text) stop q ≡ refused why q
-  pub enters : (why : List ℕ) → refusal (lobby_finds room h lobby (message q.state text)) ≡ Some why → may_enter q.state (lobby_meets q.state text) ≡ true
 
 -- So it is while a session rests, where there is room for all objects.
 abbrev pub BirthsMeet : Type 0

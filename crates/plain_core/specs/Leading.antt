@@ -1,22 +1,23 @@
 -- How machine and host come about between commands.
-use Rattle.std.specs.Prelude.{◌≡◌, ◌≢◌, ℕ, ◌+◌, ◌-◌, ◌<◌, length, Some, slice_get}
+use Rattle.std.specs.Prelude.{◌≡◌, ◌≢◌, ℕ, ◌+◌, ◌-◌, ◌<◌, ◌≤◌, length, Some, slice_get}
 use Rattle.self_terms.specs.declared.values.BodyId.{BodyId}
 use Rattle.object_maps.specs.declared.maps.SlotKind.TheVariants.{Method}
 use Rattle.slot_lookup.specs.declared.sends.Found.TheVariants.{One}
 use Rattle.sparc_store.specs.Words.{Words}
 use Rattle.plain_runs.specs.Host.{Host}
-use Rattle.plain_runs.specs.Services.{with_unit, begins}
+use Rattle.plain_runs.specs.Services.{with_unit}
 use Rattle.plain_units.specs.Putting.{IsPut}
 use Rattle.plain_turns.specs.Events.{Reaches}
+use Rattle.plain_births.specs.Births.{born}
 use Rattle.plain_births.specs.Meeting.{lobby_finds}
 use Rattle.plain_switches.specs.Switching.{switches}
 
 -- By runs, which are instructions and services alone, so many of each in all; by units that are put; by activities that begin, each of a method that
 -- a lookup from the lobby finds; and by another activity that becomes the current one.
-pub data Leads (room : ℕ) (h : Host) : ℕ → ℕ → Host → Type 0 where
-  Stays : Leads room h 0 0 h
-  Runs : (i v more served : ℕ) (g to : Host) → Leads room h i v g → Reaches room g more served to → Leads room h (i + more) (v + served) to
-  Puts : (i v : ℕ) (g : Host) (c : ℕ) (memory : Words) → Leads room h i v g → IsPut g c memory → Leads room h i v (with_unit c memory g)
-  Begins : (i v : ℕ) (g : Host) (lobby holder at name : ℕ) (c : BodyId) → Leads room h i v g → slice_get g.references.objects 0 ≡ Some lobby → lobby_finds room g lobby name ≡ One holder (Method c) → slice_get g.entries (c.0 - 1) ≡ Some at → at ≢ 0
-      → Leads room h i v (begins c.0 at lobby holder g)
-  Switches : (i v : ℕ) (g : Host) (k : ℕ) → Leads room h i v g → k < length g.statuses → Leads room h i v (switches k g)
+pub data Leads (h : Host) : ℕ → ℕ → Host → Type 0 where
+  Stays : Leads h 0 0 h
+  Runs : (i v more served : ℕ) (g to : Host) → Leads h i v g → Reaches g more served to → Leads h (i + more) (v + served) to
+  Puts : (i v : ℕ) (g : Host) (c : ℕ) (memory : Words) → Leads h i v g → IsPut g c memory → Leads h i v (with_unit c memory g)
+  Begins : (i v : ℕ) (g : Host) (room lobby holder at name : ℕ) (c : BodyId) → Leads h i v g → g.next ≤ room → slice_get g.references.objects 0 ≡ Some lobby → lobby_finds room g lobby name ≡ One holder (Method c) → slice_get g.entries (c.0 - 1) ≡ Some at → at ≢ 0
+      → Leads h i v (born c.0 at lobby holder g)
+  Switches : (i v : ℕ) (g : Host) (k : ℕ) → Leads h i v g → k < length g.statuses → Leads h i v (switches k g)

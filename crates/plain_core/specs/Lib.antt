@@ -1,5 +1,5 @@
 -- A session in plain code.
-pub mod Gated
+pub mod Language
 pub mod Turning
 pub mod Running
 pub mod Spawning

@@ -1,17 +1,15 @@
 -- What the command `spawn` comes to.
 use Rattle.std.specs.Prelude.{◌≡◌, ◌≢◌, ℕ, ◌+◌, ◌-◌, ◌≤◌, List, Some, slice_get, codes}
-use Rattle.self_terms.specs.declared.errors.ErrorName.TheVariants as errors
 use Rattle.source_model.specs.Formed.{arity}
 use Rattle.source_model.specs.Lines.{activity_line}
-use Rattle.source_model.specs.Script.{becomes, refused}
+use Rattle.source_model.specs.Script.{becomes, refused, spawn}
 use Rattle.source_model.specs.State.{State, Reached}
 use Rattle.source_model.specs.Texts.{error_text}
 use Rattle.plain_runs.specs.Host.{Host}
 use Rattle.plain_turns.specs.Resting.{Rests}
 use Rattle.plain_births.specs.Meeting.{message}
-use Rattle.plain_core.specs.Gated.{gated_spawn}
 use Rattle.plain_core.specs.declared.spawning.Birth.{Birth}
-use Rattle.plain_core.specs.declared.spawning.Birth.TheVariants.{Begun, Missing, NotAMethod, TooMany, NotBuilt}
+use Rattle.plain_core.specs.declared.spawning.Birth.TheVariants.{Begun, Refused, NotAMethod, TooMany}
 
 -- machine and host stand for some state
 abbrev pub CanSpawn : Host → Type 0
@@ -21,19 +19,18 @@ CanSpawn h = (s : State) × Rests h s
 pub record HasBegun (to : Host) (q : Reached) (text : List ℕ) : Type 0 where
   pub state : State
   pub rests : Rests to state
-  pub comes : gated_spawn text q ≡ becomes state (activity_line (state.current + 1)) q
+  pub comes : spawn text q ≡ becomes state (activity_line (state.current + 1)) q
 
 -- Nothing has changed, and the command is refused for this reason.
 pub record IsRefused (why : List ℕ) (h to : Host) (q : Reached) (text : List ℕ) : Type 0 where
   pub same : to ≡ h
-  pub refuses : gated_spawn text q ≡ refused why q
+  pub refuses : spawn text q ≡ refused why q
 
 abbrev pub Comes : Host → Host → Reached → List ℕ → Birth → Type 0
 Comes h to q text Begun = HasBegun to q text
-Comes h to q text (Missing e) = IsRefused (error_text e) h to q text
+Comes h to q text (Refused e) = IsRefused (error_text e) h to q text
 Comes h to q text NotAMethod = IsRefused (codes "not a method") h to q text
 Comes h to q text TooMany = IsRefused (codes "too many activities") h to q text
-Comes h to q text NotBuilt = IsRefused (error_text errors.NotBuilt) h to q text
 
 -- Whatever session machine and host stand for, this is what a spawn of the text comes to that has the name, and takes no arguments.
 abbrev pub IsBirth : Host → Host → ℕ → Birth → Type 0

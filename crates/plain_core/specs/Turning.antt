@@ -1,28 +1,37 @@
 -- What the calls inside a run do. Used by contracts of private functions alone.
-use Rattle.std.specs.Prelude.{◌≡◌, ℕ, suc, ◌+◌, ◌-◌, ◌^◌, ◌<◌, ◌≤◌, Option, Some, None}
-use Rattle.source_model.specs.State.{State}
+use Rattle.std.specs.Prelude.{◌≡◌, ℕ, suc, ◌+◌, ◌-◌, ◌^◌, ◌<◌, ◌≤◌, ◌++◌, List, Option, Some, None}
+use Rattle.io_ports.specs.Causes.{Takes, TakesFront}
+use Rattle.source_model.specs.State.{State, silent}
 use Rattle.plain_words.specs.Going.{Goes}
 use Rattle.plain_runs.specs.Host.{Host}
 use Rattle.plain_runs.specs.Course.{with_machine}
+use Rattle.plain_stretches.specs.Gate.{gated_run}
 use Rattle.plain_turns.specs.Asking.{count}
 use Rattle.plain_turns.specs.Events.{Serves, Reaches}
 use Rattle.plain_turns.specs.Resting.{IsGoing, IsAtTrap, HasRun}
 use Rattle.plain_turns.specs.Rooms.{unmade}
 use Rattle.plain_turns.specs.Turns.{StepsOn, BeginsAgain}
+use Rattle.plain_core.specs.Language.{Language, IsSpoken}
 use Rattle.plain_core.specs.declared.turning.Passed.{Passed}
 use Rattle.plain_core.specs.declared.turning.Turn.{Turn}
 use Rattle.plain_core.specs.declared.turning.Turn.TheVariants as turns
 
--- a run goes on from some state to this count of steps
-abbrev pub CanGoOn : Host → ℕ → Type 0
-CanGoOn h target = (from : State) × IsGoing h from target
+-- a run of the session goes on from some state to this count of steps
+pub record CanGoOn (l : Language) (h : Host) (target : ℕ) : Type 0 where
+  pub from : State
+  pub spoken : IsSpoken l from
+  pub out : List ℕ
+  pub going : IsGoing h from target out
 
-abbrev pub StandsAt : Host → ℕ → ℕ → Type 0
-StandsAt h trap target = (from : State) × IsAtTrap h trap from target
+pub record StandsAt (l : Language) (h : Host) (trap target : ℕ) : Type 0 where
+  pub from : State
+  pub spoken : IsSpoken l from
+  pub out : List ℕ
+  pub at : IsAtTrap h trap from target out
 
 -- it has come to a trap
-pub record Came (h to : Host) (trap : ℕ) (from : State) (target : ℕ) (g : IsGoing h from target) : Type 0 where
-  pub at : IsAtTrap to trap from target
+pub record Came (h to : Host) (trap : ℕ) (from : State) (target : ℕ) (out : List ℕ) (g : IsGoing h from target out) : Type 0 where
+  pub at : IsAtTrap to trap from target out
   pub counts : g.state.steps + g.stretch.steps ≤ count to
 
 -- by so many instructions alone
@@ -31,36 +40,44 @@ pub record Went (h to : Host) (instructions : ℕ) : Type 0 where
   pub is : to ≡ with_machine h to.machine
 
 -- What a service comes to: a step more leads on, or a unit more; or the run has ended.
-pub data Turned (h to : Host) (from : State) (target : ℕ) : Turn → Type 0 where
-  on : unmade to.entries ≡ unmade h.entries → StepsOn h to from target → Turned h to from target turns.On
-  again : BeginsAgain h to from target → Turned h to from target turns.On
-  ended : HasRun to from target → Turned h to from target turns.Ended
+pub data Turned (h to : Host) (from : State) (target : ℕ) (out : List ℕ) : Turn → Type 0 where
+  on : unmade to.entries ≡ unmade h.entries → StepsOn h to from target out → Turned h to from target out turns.On
+  again : BeginsAgain h to from target out → Turned h to from target out turns.On
+  ended : HasRun to from target out → Turned h to from target out turns.Ended
 
--- A service was done at a trap, and there are as many objects as before.
-pub record Served (room trap : ℕ) (h to : Host) (target : ℕ) (t : Turn) : Type 0 where
-  pub serves : Serves room h to
-  pub objects : to.next ≡ h.next
-  pub turned : (from : State) → IsAtTrap h trap from target → Turned h to from target t
+-- A service was done at a trap, and the sink took what its step prints.
+pub record Served (l : Language) (trap : ℕ) (h to : Host) (target : ℕ) (old new : Option (List ℕ)) (t : Turn) : Type 0 where
+  pub serves : Serves h to
+  pub said : List ℕ
+  pub takes : Takes old new said
+  pub turned : (from : State) (out : List ℕ) → IsSpoken l from → IsAtTrap h trap from target out → Turned h to from target (out ++ said) t
+
+-- The sink took a front of what the run prints from there on.
+pub record Breaks (l : Language) (trap : ℕ) (h : Host) (target : ℕ) (old new : Option (List ℕ)) : Type 0 where
+  pub said : List ℕ
+  pub takes : Takes old new said
+  pub front : (from : State) (out : List ℕ) → IsSpoken l from → IsAtTrap h trap from target out → (rest : List ℕ) × ((gated_run (target - from.steps) (silent from)).out ≡ out ++ said ++ rest)
 
 -- how far a run may still go: steps that are left, and units that may still be put
 abbrev pub far : ℕ → Host → ℕ
 far target h = (target + 2 - count h) + unmade h.entries
 
 -- the trap behind a turn, or the end of the run
-abbrev pub Next : Host → State → ℕ → Option ℕ → Type 0
-Next to from target (Some trap) = IsAtTrap to trap from target
-Next to from target None = HasRun to from target
+abbrev pub Next : Host → State → ℕ → List ℕ → Option ℕ → Type 0
+Next to from target out (Some trap) = IsAtTrap to trap from target out
+Next to from target out None = HasRun to from target out
 
 abbrev pub IsLess : ℕ → Host → Host → Option ℕ → Type 0
 IsLess target h to (Some trap) = far target to < far target h
 IsLess target h to None = Unit {0}
 
 -- A turn: one service, and the instructions to the next trap, where the run hasn't ended.
-pub record TurnsOn (room trap : ℕ) (h to : Host) (target : ℕ) (p : Passed) : Type 0 where
-  pub reached : Reaches room h p.instructions 1 to
+pub record TurnsOn (l : Language) (trap : ℕ) (h to : Host) (target : ℕ) (old new : Option (List ℕ)) (p : Passed) : Type 0 where
+  pub reached : Reaches h p.instructions 1 to
   pub few : p.instructions ≤ 2 ^ 40
-  pub objects : to.next ≡ h.next
-  pub at : (from : State) → IsAtTrap h trap from target → Next to from target p.next
+  pub said : List ℕ
+  pub takes : Takes old new said
+  pub at : (from : State) (out : List ℕ) → IsSpoken l from → IsAtTrap h trap from target out → Next to from target (out ++ said) p.next
   pub less : IsLess target h to p.next
 
 -- how far a run may still go, with the trap at which it stands

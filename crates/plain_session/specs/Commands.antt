@@ -3,10 +3,9 @@ use Rattle.std.specs.Prelude.{ℕ, ◌-◌, ◌==◌, nat_le, Bool, true, false,
 use Rattle.session_text.specs.declared.commands.Command.{Command}
 use Rattle.session_text.specs.declared.commands.Command.TheVariants as commands
 use Rattle.source_model.specs.Formed.{arity}
-use Rattle.source_model.specs.Script.{refused, switch, over_current, with_run_line}
+use Rattle.source_model.specs.Script.{refused, spawn, switch, over_current, with_run_line}
 use Rattle.source_model.specs.State.{State, Reached, silent}
 use Rattle.plain_stretches.specs.Gate.{gated_run}
-use Rattle.plain_core.specs.Gated.{gated_spawn, gated_steps}
 
 -- the commands that are built: an activity of a method without arguments, runs, and another current activity
 abbrev pub is_built : Command → Bool
@@ -18,13 +17,17 @@ is_built commands.Step = true
 is_built (commands.Interrupt n) = nat_le n 1000000000
 is_built _ = false
 
+-- so many steps of the current activity, and the line of that run
+unfoldable pub gated_steps : ℕ → Reached → Reached
+gated_steps n r = over_current (λ all q. with_run_line (gated_run n q)) r
+
 -- on to a count of steps, where that isn't passed yet, and the line of that run
 unfoldable pub gated_continue : ℕ → Reached → Reached
 gated_continue n r = over_current (λ all q. if nat_le q.state.steps n then with_run_line (gated_run (n - q.state.steps) q) else refused (codes "past") q) r
 
 -- what a command that is built comes to; an interrupt stops after as many steps as it asks for
 unfoldable pub obeyed : Command → Reached → Reached
-obeyed (commands.Spawn name) r = gated_spawn name r
+obeyed (commands.Spawn name) r = spawn name r
 obeyed (commands.Run n) r = gated_steps n r
 obeyed (commands.Switch k) r = switch k r
 obeyed (commands.Continue n) r = gated_continue n r

@@ -19,7 +19,7 @@ with_current k s = record s { current = k }
 abbrev pub FramesMayComeUp : Type 0
 FramesMayComeUp = (h : Host) (s : State) → Rests h s → (k sp pc count : ℕ) → slice_get h.statuses k ≡ Some (Waiting sp pc count) → k ≢ h.current → IsPlace sp × (pc + 4 < 2 ^ 32)
 
--- The counts of steps and of cost, the heap's top, the next object's number, and what is left of the goal are as they were.
+-- The counts of steps and of cost, the heap's top, the next object's number, and what is left of the goal and of the plain cost are as they were.
 pub record Switched (h to : Host) : Type 0 where
   pub sum : to.steps ≡ h.steps
   pub counted : to.machine.regs 2 ≡ h.machine.regs 2
@@ -28,6 +28,7 @@ pub record Switched (h to : Host) : Type 0 where
   pub top : to.machine.regs 6 ≡ h.machine.regs 6
   pub next : to.next ≡ h.next
   pub goal : word_at to.machine.memory 0x30000000 ≡ word_at h.machine.memory 0x30000000
+  pub left : word_at to.machine.memory 0x30000004 ≡ word_at h.machine.memory 0x30000004
 
 abbrev pub SwitchesCount : Type 0
 SwitchesCount = (h : Host) (s : State) (k : ℕ) → Rests h s → k < length h.statuses → Switched h (switches k h)

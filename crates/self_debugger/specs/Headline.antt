@@ -48,7 +48,7 @@ pub record IsLedFrom (w : World) (session : Session) : Type 0 where
   pub start : Host
   pub begun : Rests start (begins w)
   pub idle : start.statuses ≡ []
-  pub leads : Leads session.room start session.instructions session.services (host_of session)
+  pub leads : Leads start session.instructions session.services (host_of session)
 
 -- The session is what a run of the script over the world leaves: it shows the state that the script's commands come to; its machine and host were
 -- reached, by just as many instructions and services as it has counted, from those that stand for the state with which a session over the world begins, without an activity.

@@ -1,10 +1,10 @@
 -- What the calls inside the program are to do, over a world that was read. Used by contracts of private functions alone.
-use Rattle.std.specs.Prelude.{◌≡◌, ◌⊎◌, ℕ, ◌++◌, Ok, List, Option}
-use Rattle.io_ports.specs.Causes.{Takes, TakesFront}
+use Rattle.std.specs.Prelude.{◌≡◌, ℕ, Ok, List, Option}
+use Rattle.io_ports.specs.Causes.{Takes}
 use Rattle.session_text.specs.declared.commands.Command.{Command}
 use Rattle.source_model.specs.State.{Reached, silent}
 use Rattle.plain_session.specs.Commands.{obeyed, all_obeyed}
-use Rattle.plain_session.specs.Sessions.{Session, Shows, Obeys, IsLed}
+use Rattle.plain_session.specs.Sessions.{Session, Shows, Obeys, HasBroken, IsLed}
 use Rattle.world_build.specs.Worlds.{World}
 use Rattle.self_debugger.specs.WorldFiles.{WorldRead, begins}
 use Rattle.self_debugger.specs.Headline.{IsLedFrom}
@@ -13,21 +13,16 @@ use Rattle.self_debugger.specs.Headline.{IsLedFrom}
 abbrev pub IsWorld : World → Type 0
 IsWorld w = (bytes : List ℕ) × WorldRead bytes (Ok w)
 
--- A command was obeyed, and its line was written.
+-- A command was obeyed, and what it writes was written.
 pub record Did (x y : Session) (c : Command) (old now : Option (List ℕ)) : Type 0 where
   pub text : List ℕ
   pub obeys : Obeys x y (obeyed c) text
   pub took : Takes old now text
   pub led : IsLed x y
 
--- Nothing was written of a command; or it was obeyed, and a front of its line was written.
-pub record WroteFront (x y : Session) (c : Command) (old now : Option (List ℕ)) : Type 0 where
-  pub text : List ℕ
-  pub obeys : Obeys x y (obeyed c) text
-  pub front : TakesFront old now text
-
-abbrev pub Broke : Session → Session → Command → Option (List ℕ) → Option (List ℕ) → Type 0
-Broke x y c old now = (now ≡ old) ⊎ WroteFront x y c old now
+-- It broke off, and a front of what it writes was written.
+abbrev pub Broke : Session → Command → Option (List ℕ) → Option (List ℕ) → Type 0
+Broke x c old now = HasBroken x (obeyed c) old now
 
 -- Amid the commands of a script over a world, where these are left.
 pub record IsAmid (w : World) (all left : List Command) (x : Session) (old now : Option (List ℕ)) : Type 0 where
