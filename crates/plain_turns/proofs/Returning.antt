@@ -76,8 +76,8 @@ unwound_ready h goal cost r =
     let home = saved_at w.machine.memory (home_at w) in
     let s = settled goal cost (unmarked ended w) in
     ready_by (nat_lt ended (w.machine.regs 4)) (returns_to (home 14) (home 15 + 8) (w.machine.regs 4 - ended) s) (answers_from_home s)
-    (record { fit = r.fit; room = record { each = r.room.each; left = r.room.left; lobby = r.room.lobby }; maps = record { few = r.maps.few; contexts = r.maps.contexts; blocks = r.maps.blocks } })
-    (record { fit = r.fit; room = record { each = r.room.each; left = r.room.left; lobby = r.room.lobby }; maps = record { few = r.maps.few; contexts = r.maps.contexts; blocks = r.maps.blocks } })
+    (record { fit = r.fit; room = record { each = r.room.each; left = r.room.left; lobby = r.room.lobby }; maps = record { few = r.maps.few; contexts = r.maps.contexts; blocks = r.maps.blocks; bodies = r.maps.bodies } })
+    (record { fit = r.fit; room = record { each = r.room.each; left = r.room.left; lobby = r.room.lobby }; maps = record { few = r.maps.few; contexts = r.maps.contexts; blocks = r.maps.blocks; bodies = r.maps.bodies } })
 
 module _ (h : Host) (from : State) (target : ℕ) (out : List ℕ) (x : IsAtTrap h 4 from target out) where
   abbrev at_poll : Host

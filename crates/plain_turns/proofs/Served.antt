@@ -67,7 +67,7 @@ module _ (h : Host) (from : State) (target : ℕ) (out : List ℕ) (room : ℕ) 
   there = (sent h from target out x).there
 
   maps : HasMaps poll_host
-  maps = let y = x.ready.maps in record { few = y.few; contexts = y.contexts; blocks = y.blocks }
+  maps = let y = x.ready.maps in record { few = y.few; contexts = y.contexts; blocks = y.blocks; bodies = y.bodies }
 
   is_method : IsFoundMethod x.sense x.state h.bodies args name holder c receiver (to.regs 8) met
   is_method = found_method h from target out room x le holder c found
@@ -137,7 +137,7 @@ module _ (h : Host) (from : State) (target : ℕ) (out : List ℕ) (room : ℕ) 
       let paid : IsPaid x.start (settled left cost h) = paid_settled h 1 from target out x h.machine.pc (moved h from target out x) left in
       let paid1 : IsPaid x.start h1 = record { room = paid.room; top = paid.top; left = paid.left } in
       let y = x.ready in
-      let ready : IsReady h1 = record { fit = y.fit; room = record { each = y.room.each; left = y.room.left; lobby = y.room.lobby }; maps = record { few = y.maps.few; contexts = y.maps.contexts; blocks = y.maps.blocks } } in
+      let ready : IsReady h1 = record { fit = y.fit; room = record { each = y.room.each; left = y.room.left; lobby = y.room.lobby }; maps = record { few = y.maps.few; contexts = y.maps.contexts; blocks = y.maps.blocks; bodies = y.maps.bodies } } in
       let far : h1.steps + word_at h1.machine.memory 0x30000000 ≡ x.state.steps + suc (target - count h - 1) = omega (arith, goal_is, left_is, counted_is h from target out x) in
       let on = steps_stretch x.start x.sense h1 x.state (target - count h - 1) x.on.sound.runs x.on.sound.current ready.fit ready.maps paid1 (entering h from target out x) d far in
       subst (StepsOn h h1 from target) (append-nil out) (goes_on h 1 from target out x h.machine.pc q.can (moved h from target out x) h1 [] x.on.sound.runs x.on.sound.current ready on)
