@@ -12,3 +12,5 @@ pub mod Asked
 pub mod Telling
 pub mod Answering
 pub mod Putting
+pub mod Served
+pub mod Returning
