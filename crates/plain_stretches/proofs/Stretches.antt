@@ -102,26 +102,15 @@ stretches (suc left) start z h s on formed fit maps paid e =
 
 -- From a well-formed state.
 
-pub formed_polls : (start : ℕ) (z : Sense) (h : Host) (s : State) (left : ℕ) → IsWellFormed s → IsSet z h s left → AreFit h → HasMaps h → IsPaid start h → Quiet start z h s left
-formed_polls start z h s left formed set fit maps paid = stretches left start z h s set.on formed fit maps paid set.left_is
-
-pub formed_prints : (start : ℕ) (z : Sense) (h : Host) (s : State) (out : List ℕ) (left : ℕ) → IsWellFormed s → AllRun h → h.current < 4 → AreFit h → HasMaps h → IsPaid start h → gated_step s ≡ step s → DoesPrint h s out → h.steps + word_at h.machine.memory 0x30000000 ≡ s.steps + suc left
-    → StretchOn start z h s (suc left) out
-formed_prints start z h s out left formed runs current fit maps paid built d far =
-    step_stretches start z h s out left runs current formed paid far (λ y m t next forms pays less. stretches left start y (with_machine h m) t next forms fit (maps_on h m maps) pays less) built d
-
-pub formed_steps : (start : ℕ) (z : Sense) (h : Host) (s : State) (left : ℕ) → IsWellFormed s → AllRun h → h.current < 4 → AreFit h → HasMaps h → IsPaid start h → gated_step s ≡ step s → DoesStep z h s → h.steps + word_at h.machine.memory 0x30000000 ≡ s.steps + suc left
-    → StretchOn start z h s (suc left) []
-formed_steps start z h s left formed runs current fit maps paid built d far = formed_prints start z h s [] left formed runs current fit maps paid built (as_print z h s d) far
-
 pub polls_stretch : PollsStretch
-polls_stretch start z h s left set fit maps paid = formed_polls start z h s left ? set fit maps paid
-
-pub steps_stretch : StepsStretch
-steps_stretch start z h s left runs current fit maps paid built d far = formed_steps start z h s left ? runs current fit maps paid built d far
+polls_stretch start z h s left formed set fit maps paid = stretches left start z h s set.on formed fit maps paid set.left_is
 
 pub prints_stretch : PrintsStretch
-prints_stretch start z h s out left runs current fit maps paid built d far = formed_prints start z h s out left ? runs current fit maps paid built d far
+prints_stretch start z h s out left formed runs current fit maps paid built d far =
+    step_stretches start z h s out left runs current formed paid far (λ y m t next forms pays less. stretches left start y (with_machine h m) t next forms fit (maps_on h m maps) pays less) built d
+
+pub steps_stretch : StepsStretch
+steps_stretch start z h s left formed runs current fit maps paid built d far = prints_stretch start z h s [] left formed runs current fit maps paid built (as_print z h s d) far
 
 pub stretches_run : StretchesRun
 stretches_run start z h s left small x most far = traps_stop x.instructions x.trap most h.machine x.to x.goes x.stands (omega (arith, far, small, x.few, x.still))

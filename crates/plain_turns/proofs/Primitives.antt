@@ -51,7 +51,7 @@ use Rattle.plain_stretches.specs.Gate.{gated_step}
 use Rattle.plain_stretches.specs.Standing.{IsOn}
 use Rattle.plain_stretches.specs.Stretches.{Halts, AtGoal, AtSend, AtPrimitive, AtLack, AtHome, AtFull, AtEnd, Performs, IsBare, Lacks}
 use Rattle.plain_stretches.proofs.Gated.{gated_keeps}
-use Rattle.plain_stretches.proofs.Stretches.{formed_prints}
+use Rattle.plain_stretches.proofs.Stretches.{prints_stretch}
 use Rattle.plain_turns.specs.Asking.{node_here, place_here, cost_left}
 use Rattle.plain_turns.specs.Primitives.{IsPrimitive, PrimitivesAsk, LacksEnd, UndefinedEnd, IsOf, KnowsWords, Costs, Says, MayApply, PrimitivesMayApply, WasApplied, FullsEnd, FailuresEnd, PrimitiveTurns, AnswersTurn}
 use Rattle.plain_turns.specs.Resting.{IsReady, IsAtTrap, HasRun}
@@ -297,7 +297,7 @@ module _ (h : Host) (from : State) (target : ℕ) (out : List ℕ) (x : IsAtTrap
             room = record { each = x.ready.room.each; left = x.ready.room.left; lobby = x.ready.room.lobby };
             maps = record { few = x.ready.maps.few; contexts = x.ready.maps.contexts; blocks = x.ready.maps.blocks };
           } in
-          let on = formed_prints x.start z h1 s line r x.formed x.on.sound.runs x.on.sound.current ready1.fit ready1.maps paid1 built d far in
+          let on = prints_stretch x.start z h1 s line r x.formed x.on.sound.runs x.on.sound.current ready1.fit ready1.maps paid1 built d far in
           record { on = goes_on h 3 from target out x at q.can moved h1 line x.on.sound.runs x.on.sound.current ready1 on; objects = takes.next }
 
 -- one whose node has no handler is bare

@@ -129,7 +129,7 @@ module _ (h : Host) (from : State) (target : ℕ) (out : List ℕ) (x : IsAtTrap
   goes : (to : Host) → IsReady to → Leaves goal cost at_poll to x.state → DoesStep x.sense to x.state → StepsOn h to from target out
   goes to ready l d =
       let low : to.current < 4 = omega (arith, l.current, x.on.sound.current) in
-      let on = steps_stretch x.start x.sense to x.state goal l.runs low ready.fit ready.maps (paid_there to l) home.built d (omega (arith, l.goal_is, l.steps_are)) in
+      let on = steps_stretch x.start x.sense to x.state goal x.formed l.runs low ready.fit ready.maps (paid_there to l) home.built d (omega (arith, l.goal_is, l.steps_are)) in
       subst (λ (o : List ℕ). StepsOn h to from target o) (append-nil out) (goes_on h 4 from target out x h.machine.pc home.can moved to [] l.runs low ready on)
 
   -- the home was the oldest activation

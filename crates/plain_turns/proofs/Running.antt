@@ -45,7 +45,7 @@ runs_begin h s sp pc known r running goal few =
     let before : h.cost + h.machine.regs 3 ≡ s.cost = r.sound.stands.stands.cost in
     let settles = paid_once_settled r.start h goal r.paid r.sound.hosted.within (omega (arith, before, r.sound.stands.stands.within)) in
     let paid : IsPaid r.start x = record { room = settles.room; top = settles.top; left = settles.left } in
-    let goes = polls_stretch r.start r.sense x s goal set ready.fit ready.maps paid in
+    let goes = polls_stretch r.start r.sense x s goal r.formed set ready.fit ready.maps paid in
     record {
       sense = r.sense;
       state = s;
