@@ -72,7 +72,7 @@ module _ (h : Host) (from : State) (target : ℕ) (out : List ℕ) (room : ℕ) 
       let far : h1.steps + word_at h1.machine.memory 0x30000000 ≡ x.state.steps + suc after = omega (arith, goal_is, counted_is h from target out x) in
       let paid1 : IsPaid x.start h1 = record { room = paid.room; top = paid.top; left = paid.left } in
       let y = x.ready in
-      let ready : IsReady h1 = record { fit = y.fit; room = record { each = y.room.each; left = y.room.left; lobby = y.room.lobby }; maps = record { few = y.maps.few; contexts = y.maps.contexts; blocks = y.maps.blocks } } in
+      let ready : IsReady h1 = record { fit = y.fit; room = record { each = y.room.each; left = y.room.left; lobby = y.room.lobby }; maps = record { few = y.maps.few; bodies = y.maps.bodies; contexts = y.maps.contexts; blocks = y.maps.blocks } } in
       let on = steps_stretch x.start x.sense h1 x.state after x.formed x.on.sound.runs x.on.sound.current ready.fit ready.maps paid1 (entering h from target out x) d far in
       subst (StepsOn h h1 from target) (append-nil out) (goes_on h 1 from target out x h.machine.pc q.can (moved h from target out x) h1 [] x.on.sound.runs x.on.sound.current ready on)
 
@@ -95,7 +95,7 @@ module _ (h : Host) (from : State) (target : ℕ) (out : List ℕ) (room : ℕ) 
       let far : h1.steps + word_at h1.machine.memory 0x30000000 ≡ x.state.steps + suc after = omega (arith, goal_is, counted_is h from target out x) in
       let paid1 : IsPaid x.start h1 = record { room = paid.room; top = paid.top; left = ap (λ w. w + (h.cost + h.machine.regs 3)) cost_is ∙ paid.left } in
       let y = x.ready in
-      let ready : IsReady h1 = record { fit = y.fit; room = record { each = y.room.each; left = y.room.left; lobby = y.room.lobby }; maps = record { few = y.maps.few; contexts = y.maps.contexts; blocks = y.maps.blocks } } in
+      let ready : IsReady h1 = record { fit = y.fit; room = record { each = y.room.each; left = y.room.left; lobby = y.room.lobby }; maps = record { few = y.maps.few; bodies = y.maps.bodies; contexts = y.maps.contexts; blocks = y.maps.blocks } } in
       let on = steps_stretch x.start x.sense h1 x.state after x.formed x.on.sound.runs x.on.sound.current ready.fit ready.maps paid1 (entering h from target out x) d far in
       subst (StepsOn h h1 from target) (append-nil out) (goes_on h 1 from target out x h.machine.pc q.can (moved h from target out x) h1 [] x.on.sound.runs x.on.sound.current ready on)
 
