@@ -31,8 +31,6 @@ use Rattle.plain_runs.specs.Units.{node_offset}
 use Rattle.plain_runs.specs.Course.{with_machine, code_at}
 use Rattle.plain_runs.proofs.Pointed.{next_offset}
 use Rattle.plain_sends.specs.Sends.{selector_of, met_of}
-use Rattle.plain_sends.specs.Messages.{IsMessaged}
-use Rattle.plain_sends.proofs.Messages.{sends_message}
 use Rattle.plain_lookups.specs.Telling.{MayLook, start_of, begins_at, found_by, FoundTells, IsFound}
 use Rattle.plain_lookups.proofs.Telling.{founds_tell}
 use Rattle.plain_stretches.specs.Gate.{is_built, gated_step}
@@ -112,10 +110,6 @@ module _ (h : Host) (from : State) (target : ℕ) (out : List ℕ) (x : IsAtTrap
 
   pub sent : Sends x.sense at_poll x.state x.on h.machine
   sent = sends_at h 1 from target out x refl x.halts
-
-  -- the message at the trap
-  pub messaged : IsMessaged x.sense at_poll x.state b n x.on.node sent.selector.args sent.selector.name.0 (met_of x.on.node x.state sent.sent.sender) x.on.at sent.sent.asks.to
-  messaged = sends_message x.sense at_poll x.state b n x.on.node sent.selector x.on.at sent.sent
 
   -- nothing but scratch registers has changed since the poll
   pub moved : Moved x.last h.machine (h.machine.pc) x.last.memory (x.last.regs 2)

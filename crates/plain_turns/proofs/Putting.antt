@@ -165,7 +165,7 @@ module _ (h : Host) (from : State) (target : ℕ) (out : List ℕ) (room : ℕ) 
           let ready : IsReady last = record {
             fit = x.ready.fit;
             room = record { each = room_to.each; left = room_to.left; lobby = room_to.lobby };
-            maps = record { few = x.ready.maps.few; contexts = x.ready.maps.contexts; blocks = x.ready.maps.blocks };
+            maps = record { few = x.ready.maps.few; bodies = x.ready.maps.bodies; contexts = x.ready.maps.contexts; blocks = x.ready.maps.blocks };
           } in
           let on_from = polls_stretch x.start x.sense last s goal x.formed set ready.fit ready.maps paid in
           let fewer_left : unmade (slice_set h.entries (c.0 - 1) (next_unit h)) < unmade h.entries = (let P : ℕ → Type 0 = λ a. unmade (slice_set h.entries (c.0 - 1) a) < unmade h.entries in subst P (omega arith) (unmade_set h.entries (c.0 - 1) (next_unit h - 1) none)) in
