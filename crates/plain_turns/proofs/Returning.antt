@@ -26,7 +26,7 @@ use Rattle.plain_stretches.specs.Standing.{left_of}
 use Rattle.plain_stretches.specs.Stretches.{Halts, AtGoal, AtSend, AtPrimitive, AtLack, AtHome, AtFull, AtEnd, GoesHome}
 use Rattle.plain_stretches.proofs.Gated.{then_gated, answered_rests}
 use Rattle.plain_stretches.proofs.Joining.{runs_join}
-use Rattle.plain_stretches.proofs.Stretches.{formed_steps}
+use Rattle.plain_stretches.proofs.Stretches.{steps_stretch}
 use Rattle.plain_turns.specs.Asking.{count, cost_left}
 use Rattle.plain_turns.specs.Resting.{IsReady, IsAtTrap, HasRun}
 use Rattle.plain_turns.specs.Turns.{StepsOn, ReturnsTurn}
@@ -129,7 +129,7 @@ module _ (h : Host) (from : State) (target : ℕ) (out : List ℕ) (x : IsAtTrap
   goes : (to : Host) → IsReady to → Leaves goal cost at_poll to x.state → DoesStep x.sense to x.state → StepsOn h to from target out
   goes to ready l d =
       let low : to.current < 4 = omega (arith, l.current, x.on.sound.current) in
-      let on = formed_steps x.start x.sense to x.state goal x.formed l.runs low ready.fit ready.maps (paid_there to l) home.built d (omega (arith, l.goal_is, l.steps_are)) in
+      let on = steps_stretch x.start x.sense to x.state goal x.formed l.runs low ready.fit ready.maps (paid_there to l) home.built d (omega (arith, l.goal_is, l.steps_are)) in
       subst (λ (o : List ℕ). StepsOn h to from target o) (append-nil out) (goes_on h 4 from target out x h.machine.pc home.can moved to [] l.runs low ready on)
 
   -- the home was the oldest activation

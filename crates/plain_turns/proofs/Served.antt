@@ -26,7 +26,7 @@ use Rattle.plain_lookups.specs.Telling.{begins_at, sent_to}
 use Rattle.plain_served.specs.Serving.{refusal, MayTestMark, IsCallable, IsServed}
 use Rattle.plain_served.proofs.Serving.{methods_served}
 use Rattle.plain_unwinds.specs.Services.{fails_unmarked}
-use Rattle.plain_stretches.proofs.Stretches.{formed_steps}
+use Rattle.plain_stretches.proofs.Stretches.{steps_stretch}
 use Rattle.plain_turns.specs.Asking.{count, place_here, found_here, cost_left}
 use Rattle.plain_turns.specs.Resting.{IsReady, IsAtTrap, HasRun}
 use Rattle.plain_turns.specs.Turns.{StepsOn, MarksMayBeTested, CallsTurn, RefusalsEnd}
@@ -139,7 +139,7 @@ module _ (h : Host) (from : State) (target : ℕ) (out : List ℕ) (room : ℕ) 
       let y = x.ready in
       let ready : IsReady h1 = record { fit = y.fit; room = record { each = y.room.each; left = y.room.left; lobby = y.room.lobby }; maps = record { few = y.maps.few; contexts = y.maps.contexts; blocks = y.maps.blocks; bodies = y.maps.bodies } } in
       let far : h1.steps + word_at h1.machine.memory 0x30000000 ≡ x.state.steps + suc (target - count h - 1) = omega (arith, goal_is, left_is, counted_is h from target out x) in
-      let on = formed_steps x.start x.sense h1 x.state (target - count h - 1) x.formed x.on.sound.runs x.on.sound.current ready.fit ready.maps paid1 (entering h from target out x) d far in
+      let on = steps_stretch x.start x.sense h1 x.state (target - count h - 1) x.formed x.on.sound.runs x.on.sound.current ready.fit ready.maps paid1 (entering h from target out x) d far in
       subst (StepsOn h h1 from target) (append-nil out) (goes_on h 1 from target out x h.machine.pc q.can (moved h from target out x) h1 [] x.on.sound.runs x.on.sound.current ready on)
 
   refused_turn : (goal : ℕ) (e : ErrorName) → goal ≤ 1000000000 → refusal h c.0 ≡ Some e → HasRun (fails_unmarked goal (cost_left h) e (place_here h) h) from target out
