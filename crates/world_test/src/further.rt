@@ -61,7 +61,8 @@ fn add_texts(names: &mut Names) -> Result<(), AllocError>
     add(names, b"value:With:")?;
     add(names, b"value:With:With:")?;
     add(names, b"value:With:With:With:")?;
-    add(names, b"value:With:With:With:With:")
+    add(names, b"value:With:With:With:With:")?;
+    Ok(())
 }
 
 /// The names of a world once more, and those that a session has behind them, which the text of a world may not have: `lobby`, and the messages that
