@@ -1,5 +1,5 @@
 -- What the calls inside a run do. Used by contracts of private functions alone.
-use Rattle.std.specs.Prelude.{◌≡◌, ℕ, suc, ◌+◌, ◌-◌, ◌^◌, ◌<◌, ◌≤◌, ◌++◌, Bool, true, false, List, Option, Some, None}
+use Rattle.std.specs.Prelude.{◌≡◌, ℕ, suc, ◌+◌, ◌-◌, ◌^◌, ◌<◌, ◌≤◌, ◌++◌, Bool, true, false, List, [], Option, Some, None}
 use Rattle.io_ports.specs.Causes.{Takes}
 use Rattle.self_terms.specs.declared.names.Name.{Name}
 use Rattle.self_terms.specs.declared.nodes.Node.TheVariants as nodes
@@ -14,6 +14,7 @@ use Rattle.plain_prims.specs.Rows.{primitive_of}
 use Rattle.plain_stretches.specs.Gate.{gated_run}
 use Rattle.plain_turns.specs.Asking.{count, node_here}
 use Rattle.plain_turns.specs.Events.{Serves, Reaches}
+use Rattle.plain_turns.specs.Primitives.{Says}
 use Rattle.plain_turns.specs.Resting.{IsGoing, IsAtTrap, HasRun}
 use Rattle.plain_turns.specs.Rooms.{unmade}
 use Rattle.plain_turns.specs.Turns.{StepsOn, BeginsAgain}
@@ -74,6 +75,11 @@ abbrev pub is_printing : Primitive → Bool
 is_printing prim.StringPrint = true
 is_printing prim.IntPrint = true
 is_printing _ = false
+
+-- what is written for one: what it prints, or nothing
+abbrev pub Writes : Bool → Host → Primitive → List ℕ → Type 0
+Writes true h p line = Says h p line
+Writes false h p line = line ≡ []
 
 -- The sink took a front of what the run prints from there on.
 pub record Breaks (l : Language) (trap : ℕ) (h : Host) (target : ℕ) (old new : Option (List ℕ)) : Type 0 where

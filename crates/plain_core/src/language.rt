@@ -8,7 +8,7 @@ ghost use Rattle.plain_prims.specs.Rows.{primitive_of, taking};
 use prim_table::prim_of;
 use self_terms::{Name, Names, OutOfMemory};
 use source_model::{Core, Primitive};
-use std::alloc::Global;
+use std::alloc::{AllocError, Global};
 use std::marker::Model;
 
 // No session has more names.
@@ -71,7 +71,7 @@ fn rows_of(alloc: Global, names: &Names) -> Result<Vec<Option<Primitive>>, OutOf
 {
     let count = names.len();
     if count > MOST_NAMES {
-        return Err(OutOfMemory);
+        return Err(AllocError);
     }
     let mut rows = Vec::with_capacity(alloc, count)?;
     for at in 0..count {

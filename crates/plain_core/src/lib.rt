@@ -9,10 +9,12 @@
 
 mod language;
 mod printing;
+mod probing;
 mod running;
 mod spawning;
 mod turning;
 
+pub use probing::probe;
 pub use language::Language;
 pub use running::{Counts, RunErr, run};
 pub use spawning::{Birth, spawn};

@@ -22,12 +22,12 @@ ghost use Rattle.plain_prims.specs.Services.{heap_of};
 ghost use Rattle.plain_served.specs.Serving.{MayTestMark, is_costly, is_gone, refusal};
 ghost use Rattle.plain_unwinds.specs.Services.{fails_unmarked};
 ghost use Rattle.plain_turns.specs.Asking.{behind_poll, cost_left, count, found_here, node_here, place_here};
-ghost use Rattle.plain_turns.specs.Primitives.{Costs, KnowsWords, Says};
+ghost use Rattle.plain_turns.specs.Primitives.{Costs, KnowsWords};
 ghost use Rattle.plain_turns.specs.Resting.{IsGoing};
 ghost use Rattle.plain_turns.specs.Turns.{IsAsked};
 ghost use Rattle.plain_host.specs.Hosted.{host};
 ghost use Rattle.plain_core.specs.Language.{KnowsCore};
-ghost use Rattle.plain_core.specs.Turning.{Breaks, Came, CanGoOn, IsKnown, Quiet, Served, StandsAt, TurnsOn, Went, is_printing};
+ghost use Rattle.plain_core.specs.Turning.{Breaks, Came, CanGoOn, IsKnown, Quiet, Served, StandsAt, TurnsOn, Went, Writes, is_printing};
 ghost use Rattle.plain_core.specs.declared.running.RunErr.TheVariants.{Write};
 ghost use Rattle.plain_core.specs.declared.turning.Turn.TheVariants.{Ended};
 
@@ -693,8 +693,8 @@ fn write_line<K: Sink>(
     out: &mut K,
 ) -> Result<(), RunErr>
     requires { is_printing prim ≡ true → Operand (host hosting.now).maps (host hosting.now).machine.memory (heap_of (host hosting.now)) ((host hosting.now).machine.regs 8) }
-    ensures said { OnOk result ((line : List ℕ) × Says (host hosting.now) prim line × Takes (K.taken out.old) (K.taken out.new) line) }
-    ensures front { OnErr result ((line : List ℕ) × Says (host hosting.now) prim line × TakesFront (K.taken out.old) (K.taken out.new) line) }
+    ensures said { OnOk result ((line : List ℕ) × Writes (is_printing prim) (host hosting.now) prim line × Takes (K.taken out.old) (K.taken out.new) line) }
+    ensures front { OnErr result ((line : List ℕ) × Writes (is_printing prim) (host hosting.now) prim line × TakesFront (K.taken out.old) (K.taken out.new) line) }
     ensures later { K.faults out.old ≤ K.faults out.new }
     ensures cause { result ≡ Err Write → Rose (K.faults out.old) (K.faults out.new) }
 {
@@ -905,4 +905,8 @@ pub(crate) fn take_turn<K: Sink>(
             instructions: 0,
         }),
     }
+}
+
+pub(crate) fn is_blockless(body: &Body) -> bool {
+    body.outer.is_none() && !owns_context(body)
 }

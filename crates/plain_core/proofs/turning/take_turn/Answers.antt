@@ -6,12 +6,12 @@ use Rattle.plain_core.proofs.Joining.{goes, turns_on, turns_end}
 use Rattle.plain_core.proofs.turning.take_turn.Goals as goal
 
 pub go-came-requires : goal.go-came-requires
-go-came-requires c = goes c.args.walk.now c.args.trap c.args.target (host c.args.hosting.now) (host c.serve.new.hosting) c.in_ok-serve.field-0 c.in-On.is c.requires.at c.in_ok-serve.ensures.served
+go-came-requires c = goes c.args.language.now c.args.trap c.args.target (host c.args.hosting.now) (host c.serve.new.hosting) c.in_ok-serve.field-0 c.in-On.is c.requires.at c.in_ok-serve.ensures.served
 
 pub returns-in-On-clause-on : goal.returns-in-On-clause-on
 returns-in-On-clause-on c =
-    let P : Turn → Type 0 = λ t. Served c.args.walk.now c.args.trap (host c.args.hosting.now) (host c.serve.new.hosting) c.args.target t in
-    turns_on c.args.walk.now c.args.trap c.args.target (host c.args.hosting.now) (host c.serve.new.hosting) (host c.go-came.new.hosting) c.go-came.result.trap c.go-came.result.instructions c.go-came.ensures.came c.go-came.ensures.went c.go-came.ensures.few c.requires.at (subst P c.in-On.is c.in_ok-serve.ensures.served)
+    let P : Turn → Type 0 = λ t. Served c.args.language.now c.args.trap (host c.args.hosting.now) (host c.serve.new.hosting) c.args.target t in
+    turns_on c.args.language.now c.args.trap c.args.target (host c.args.hosting.now) (host c.serve.new.hosting) (host c.go-came.new.hosting) c.go-came.result.trap c.go-came.result.instructions c.go-came.ensures.came c.go-came.ensures.went c.go-came.ensures.few c.requires.at (subst P c.in-On.is c.in_ok-serve.ensures.served)
 
 pub returns-in-Ended-clause-on : goal.returns-in-Ended-clause-on
-returns-in-Ended-clause-on c = turns_end c.args.walk.now c.args.trap c.args.target (host c.args.hosting.now) (host c.serve.new.hosting) c.in_ok-serve.field-0 c.in-Ended.is c.in_ok-serve.ensures.served
+returns-in-Ended-clause-on c = turns_end c.args.language.now c.args.trap c.args.target (host c.args.hosting.now) (host c.serve.new.hosting) c.in_ok-serve.field-0 c.in-Ended.is c.in_ok-serve.ensures.served
