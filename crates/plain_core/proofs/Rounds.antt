@@ -15,7 +15,7 @@ use Rattle.plain_core.specs.Running.{CanRun, HasRunOn, HasBroken}
 use Rattle.plain_core.specs.Turning.{Broken, Breaks, CanGoOn, Next, IsLess, Ran, StandsAt, Went, far, still}
 use Rattle.plain_core.specs.declared.running.Counts.{Counts}
 use Rattle.plain_core.proofs.Laws.{runs_begin, traps_tell}
-use Rattle.plain_core.proofs.Fronts.{takes_more, then_more, taken_front}
+use Rattle.plain_core.proofs.Fronts.{no_more, takes_more, then_more, taken_front}
 use Rattle.plain_core.proofs.Joining.{as_many, by_words, joined}
 
 pub none_at : (h : Host) (from : State) (target : ℕ) (out : List ℕ) (o : Option ℕ) → o ≡ None → Next h from target out o → HasRun h from target out
@@ -23,6 +23,10 @@ none_at h from target out o e n = let P : Option ℕ → Type 0 = λ p. Next h f
 
 pub at_trap : (h : Host) (from : State) (target : ℕ) (out : List ℕ) (trap : ℕ) (o : Option ℕ) → o ≡ Some trap → Next h from target out o → IsAtTrap h trap from target out
 at_trap h from target out trap o e n = let P : Option ℕ → Type 0 = λ p. Next h from target out p in subst P e n
+
+-- nothing more was printed
+pub next_none : (h : Host) (from : State) (target : ℕ) (out : List ℕ) (o : Option ℕ) → Next h from target out o → Next h from target (out ++ []) o
+next_none h from target out o n = let P : List ℕ → Type 0 = λ ys. Next h from target ys o in subst P (sym (no_more out)) n
 
 -- behind more that was printed
 pub next_more : (h : Host) (from : State) (target : ℕ) (out one two : List ℕ) (o : Option ℕ) → Next h from target ((out ++ one) ++ two) o → Next h from target (out ++ (one ++ two)) o
