@@ -5,6 +5,7 @@ use Rattle.io_ports.specs.Causes.{Takes, TakesFront}
 use Rattle.self_terms.specs.declared.errors.ErrorName.{ErrorName}
 use Rattle.self_terms.specs.declared.errors.ErrorName.TheVariants as errors
 use Rattle.self_terms.specs.declared.names.Name.{Name}
+use Rattle.self_terms.specs.declared.nodes.Node.{Node}
 use Rattle.self_terms.specs.declared.nodes.Node.TheVariants as nodes
 use Rattle.self_terms.specs.declared.values.Value.{Value}
 use Rattle.self_terms.specs.declared.values.Value.TheVariants as values
@@ -23,7 +24,8 @@ use Rattle.heap_cells.specs.Heaps.{IsHeap}
 use Rattle.heap_cells.specs.Laying.{Cells}
 use Rattle.heap_cells.specs.Source.{Made}
 use Rattle.heap_cells.specs.Standing.{Places, IsValue}
-use Rattle.prim_table.specs.Answers.{CanApply, IsAnswer}
+use Rattle.prim_table.specs.Answers.{CanApply, IsAnswer, cost}
+use Rattle.prim_table.specs.Operands.{Operand}
 use Rattle.prim_table.specs.declared.answers.CoreWords.{CoreWords}
 use Rattle.prim_table.specs.declared.answers.PrimAnswer.TheVariants as answers
 use Rattle.plain_words.specs.Moves.{registers_from}
@@ -197,9 +199,24 @@ module _ (maps : List Slots) (mem new : Words) (heap heap_new : Heap) (h : Cells
 pub unchanged : (h g : Host) → g ≡ with_machine h (record h.machine { memory = g.machine.memory }) → g.machine.memory ≡ h.machine.memory → g ≡ h
 unchanged h g e f = e ∙ ap (λ (m : Words). with_machine h (record h.machine { memory = m })) f
 
+-- The cost of a receiver's word.
+pub costs_of : (h : Host) (p : Primitive) (words word : ℕ) → word ≡ h.machine.regs 8
+    → ((heap : Heap) (cells : Cells) (places : Places) (made : List Made) (s : State) (v : Value) (vs : List Value) → IsHeap h.maps h.machine.memory heap cells places s.things made → IsValue cells places v word → words ≡ cost (apply s p v vs)) → Costs h p words
+costs_of h p words word e k =
+    let P : ℕ → Type 0 = λ w. (heap : Heap) (cells : Cells) (places : Places) (made : List Made) (s : State) (v : Value) (vs : List Value) → IsHeap h.maps h.machine.memory heap cells places s.things made → IsValue cells places v w → words ≡ cost (apply s p v vs) in
+    subst P e k
+
 module _ (l : Language) (h : Host) (target : ℕ) (at : StandsAt l h 3 target) where
   pub primitive_here : IsPrimitive h target
   primitive_here = primitives_ask h at.from target at.out at.at
+
+  pub few_arguments : (node : Node) (name : Name) (args : ℕ) (implied handler : Bool) → node_here h ≡ Some node → node ≡ nodes.Prim name args implied handler → args ≤ 5
+  few_arguments node name args implied handler here is =
+      let q = primitive_here in
+      let few = q.few in
+      let both : Some (nodes.Prim q.name q.args q.implied q.handler) ≡ Some (nodes.Prim name args implied handler) = sym q.node_is ∙ here ∙ ap Some is in
+      let same : q.args ≡ args = cc in
+      omega (arith, few, same)
 
   pub lack_served : (name : Name) (args : ℕ) (implied : Bool) → node_here h ≡ Some (nodes.Prim name args implied true) → Quiet l 3 h (fails_unmarked 0 (cost_left h) errors.NotBuilt (place_here h) h) target turns.Ended
   lack_served name args implied node = quietly l 3 h _ target turns.Ended (Fails at.at.stands 0 (cost_left h) errors.NotBuilt) refl (λ from out spoken x. ended (lacks_end h from target out x name args implied node 0 (omega arith)))
@@ -223,6 +240,9 @@ module _ (l : Language) (h : Host) (target : ℕ) (at : StandsAt l h 3 target) w
       pub may : MayApply h p args core
       may = primitives_apply h at.from target at.out at.at p args (of_this at.from at.spoken) core (known_to at.from at.spoken)
 
+      pub operand_at : (word : ℕ) → word ≡ h.machine.regs 8 → (heap : Heap) × Operand h.maps h.machine.memory heap word
+      operand_at word e = subst (λ (w : ℕ). (heap : Heap) × Operand h.maps h.machine.memory heap w) (sym e) (heap_of h, may.operand)
+
       -- it was applied, and left this host
       module _ (g : Host) (heap : Heap) (is : g ≡ with_machine h (record h.machine { memory = g.machine.memory })) where
         pub failed_same : (e : ErrorName) → WasApplied h p args core g.machine.memory heap (answers.Fails e) → g ≡ h
@@ -238,6 +258,9 @@ module _ (l : Language) (h : Host) (target : ℕ) (at : StandsAt l h 3 target) w
               let c = may.apply words costs fits in
               let a = was.answers c.cells c.places c.made c.state c.value c.values c.is c.known c.stands c.stand in
               unchanged h g is (print_same h.maps h.machine.memory g.machine.memory (heap_of h) heap c.cells c.places c.state.things c.made (h.machine.regs 8) word c.state p c.value c.values e a)
+
+          pub operand_after : is_printing p ≡ true → Operand g.maps g.machine.memory (heap_of g) (g.machine.regs 8)
+          operand_after e = let P : Host → Type 0 = λ y. Operand y.maps y.machine.memory (heap_of y) (y.machine.regs 8) in subst P (sym (printing_same e)) may.operand
 
           says_by : (b : Bool) (line : List ℕ) → is_printing p ≡ b → Writes b g p line → Says h p line
           says_by true line e w = let P : Host → Type 0 = λ y. Says y p line in subst P (printing_same e) w

@@ -27,7 +27,7 @@ use Rattle.plain_answers.specs.Found.{error_of}
 use Rattle.plain_answers.specs.Whole.{whole}
 use Rattle.plain_served.specs.Serving.{refusal, MayTestMark}
 use Rattle.plain_units.specs.Putting.{IsPut}
-use Rattle.plain_unwinds.specs.Services.{fails_unmarked, unwinds}
+use Rattle.plain_unwinds.specs.Services.{CanUnwind, fails_unmarked, unwinds}
 use Rattle.plain_turns.specs.Asking.{count, cost_left, node_here, place_here, found_here, behind_poll, goes_back}
 use Rattle.plain_turns.specs.Events.{Serves, Waits, Answers, Assigns, Calls, Puts, Misses, Refuses, Returns, Fills, Ends}
 use Rattle.plain_turns.specs.Resting.{IsAtTrap, HasRun}
@@ -77,6 +77,9 @@ module _ (l : Language) (h : Host) (target : ℕ) where
 
   pub fill_served : StandsAt l h 8 target → Quiet l 8 h (fails_unmarked 0 (cost_left h) errors.StoreFull (place_here h) h) target turns.Ended
   fill_served at = quietly l 8 h _ target turns.Ended (Fills at.at.stands 0 (cost_left h)) refl (λ from out spoken x. ended (stores_fill h from target out x 0 (omega arith)))
+
+  pub home_ends : StandsAt l h 4 target → CanUnwind h
+  home_ends at = (told l h 4 target at).ends (λ (e : 4 ≡ 9). absurd (omega (arith, e)))
 
   abbrev home : Host
   home = unwinds (target - count h - 1) (cost_left h) h

@@ -600,7 +600,9 @@ fn leave(hosting: &mut Hosting, language: &Language, target: u64) -> Turn
     hosting.unwind(goal, cost);
     match hosting.status(current) {
         Some(Status::Waiting(_, _, _)) => Turn::On,
-        _ => Turn::Ended,
+        Some(Status::Answered(_)) => Turn::Ended,
+        Some(Status::Failed(_, _)) => Turn::Ended,
+        None => Turn::Ended,
     }
 }
 
@@ -793,6 +795,51 @@ fn perform_known<K: Sink>(
     apply(hosting, alloc, walk, language, out, target, prim, args, words)
 }
 
+// The service of a node at whose trap the machine stands, which is a primitive's.
+fn perform_node<K: Sink>(
+    hosting: &mut Hosting,
+    alloc: Global,
+    walk: &mut Walk,
+    language: &Language,
+    out: &mut K,
+    target: u64,
+    node: Node,
+) -> Result<Turn, RunErr>
+    requires at { StandsAt language.now (host hosting.old) 3 target }
+    requires small { target ≤ 2 ^ 61 }
+    requires core { KnowsCore (host hosting.old) language.now.core }
+    requires room { (host hosting.old).next ≤ walk.old }
+    requires here { node_here (host hosting.old) ≡ Some node }
+    ensures served { IfOk result (λ t. Served language.now 3 (host hosting.old) (host hosting.new) target (K.taken out.old) (K.taken out.new) t) }
+    ensures roomy { OnOk result ((host hosting.new).next ≤ walk.new) }
+    ensures grown { walk.old ≤ walk.new }
+    ensures broken { OnErr result (Breaks language.now 3 (host hosting.old) target (K.taken out.old) (K.taken out.new)) }
+    ensures later { K.faults out.old ≤ K.faults out.new }
+    ensures cause { result ≡ Err Write → Rose (K.faults out.old) (K.faults out.new) }
+{
+    match node {
+        Node::Prim {
+            name,
+            args,
+            implied,
+            handler,
+        } => {
+            if handler {
+                return Ok(lack(hosting, language, target, name, args, implied));
+            }
+            match language.primitive(name, args) {
+                None => Ok(fail_undefined(
+                    hosting, language, target, name, args, implied,
+                )),
+                Some(prim) => {
+                    perform_known(hosting, alloc, walk, language, out, target, prim, args)
+                }
+            }
+        }
+        _ => unreachable!(),
+    }
+}
+
 // A primitive's service.
 fn perform<K: Sink>(
     hosting: &mut Hosting,
@@ -814,25 +861,8 @@ fn perform<K: Sink>(
     ensures cause { result ≡ Err Write → Rose (K.faults out.old) (K.faults out.new) }
 {
     match node_here(hosting) {
-        Some(Node::Prim {
-            name,
-            args,
-            implied,
-            handler,
-        }) => {
-            if handler {
-                return Ok(lack(hosting, language, target, name, args, implied));
-            }
-            match language.primitive(name, args) {
-                None => Ok(fail_undefined(
-                    hosting, language, target, name, args, implied,
-                )),
-                Some(prim) => {
-                    perform_known(hosting, alloc, walk, language, out, target, prim, args)
-                }
-            }
-        }
-        _ => unreachable!(),
+        None => unreachable!(),
+        Some(node) => perform_node(hosting, alloc, walk, language, out, target, node),
     }
 }
 
