@@ -34,9 +34,9 @@ behind [] w vs = refl
 behind (x ∷ xs) w vs = ap (λ (ys : List (Option Primitive)). x ∷ ys) (behind xs w vs)
 
 -- one more of them
-pub row_next : (names : List (List ℕ)) (ws : List (Option Primitive)) (w : Option Primitive) (n i : ℕ) → i < length names → n ≡ suc i → w ≡ prim_named (text_named names n) → (ws ++ w ∷ []) ++ map prim_named (drop (suc i) names) ≡ ws ++ map prim_named (drop i names)
-row_next names ws w n i le is e =
-    behind ws w (map prim_named (drop (suc i) names)) ∙ ap (λ (v : Option Primitive). ws ++ v ∷ map prim_named (drop (suc i) names)) (e ∙ ap (λ (k : ℕ). prim_named (text_named names k)) is) ∙ ap (λ (vs : List (Option Primitive)). ws ++ vs) (sym (rest_of names i le))
+pub row_next : (names : List (List ℕ)) (ws : List (Option Primitive)) (w : Option Primitive) (n k i : ℕ) → i < length names → n ≡ suc i → k ≡ suc i → w ≡ prim_named (text_named names n) → (ws ++ w ∷ []) ++ map prim_named (drop k names) ≡ ws ++ map prim_named (drop i names)
+row_next names ws w n k i le is next e =
+    ap (λ (j : ℕ). (ws ++ w ∷ []) ++ map prim_named (drop j names)) next ∙ behind ws w (map prim_named (drop (suc i) names)) ∙ ap (λ (v : Option Primitive). ws ++ v ∷ map prim_named (drop (suc i) names)) (e ∙ ap (λ (k : ℕ). prim_named (text_named names k)) is) ∙ ap (λ (vs : List (Option Primitive)). ws ++ vs) (sym (rest_of names i le))
 
 pub rows_end : (names : List (List ℕ)) (ws : List (Option Primitive)) (i : ℕ) → i ≡ length names → ws ++ map prim_named (drop i names) ≡ ws
 rows_end names ws i e = ap (λ (k : ℕ). ws ++ map prim_named (drop k names)) e ∙ ap (λ (xs : List (List ℕ)). ws ++ map prim_named xs) (dropped names) ∙ nothing ws

@@ -27,6 +27,7 @@ use Rattle.heap_cells.specs.Standing.{Places, IsValue}
 use Rattle.prim_table.specs.Answers.{CanApply, IsAnswer, cost}
 use Rattle.prim_table.specs.Operands.{Operand}
 use Rattle.prim_table.specs.declared.answers.CoreWords.{CoreWords}
+use Rattle.prim_table.specs.declared.answers.PrimAnswer.{PrimAnswer}
 use Rattle.prim_table.specs.declared.answers.PrimAnswer.TheVariants as answers
 use Rattle.plain_words.specs.Moves.{registers_from}
 use Rattle.plain_runs.specs.Host.{Host}
@@ -198,6 +199,9 @@ module _ (maps : List Slots) (mem new : Words) (heap heap_new : Heap) (h : Cells
 -- Memory after a primitive was applied.
 pub unchanged : (h g : Host) → g ≡ with_machine h (record h.machine { memory = g.machine.memory }) → g.machine.memory ≡ h.machine.memory → g ≡ h
 unchanged h g e f = e ∙ ap (λ (m : Words). with_machine h (record h.machine { memory = m })) f
+
+pub was_so : (h : Host) (p : Primitive) (args : ℕ) (core : CoreWords) (memory : Words) (heap : Heap) (one other : PrimAnswer) → one ≡ other → WasApplied h p args core memory heap one → WasApplied h p args core memory heap other
+was_so h p args core memory heap one other e was = subst (λ (a : PrimAnswer). WasApplied h p args core memory heap a) e was
 
 -- The cost of a receiver's word.
 pub costs_of : (h : Host) (p : Primitive) (words word : ℕ) → word ≡ h.machine.regs 8
