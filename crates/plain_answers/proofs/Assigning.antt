@@ -79,6 +79,8 @@ assignments_answer z h s b n node sel r q f can holder place slot some goal cost
       goes = to.goes;
       hosted = to.hosted;
       goal = to.goal;
+      left = to.left;
+      paid = to.paid;
       body = b;
       number = n + 1;
       next = to.next;

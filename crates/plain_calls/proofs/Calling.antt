@@ -140,6 +140,8 @@ methods_called z h s b n node sel r q stood can o c holder at met low object uni
       goes = g.goes;
       hosted = hosted_as steps sum h2 g.hosted;
       goal = g.goal;
+      left = g.left;
+      paid = omega (arith, g.top, g.cost);
       body = c.0;
       number = 0;
       next = g.next;

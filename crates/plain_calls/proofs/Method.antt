@@ -20,7 +20,7 @@ use Rattle.plain_steps.proofs.Here.{now_seen}
 use Rattle.plain_calls.proofs.Bounds.{entry_few}
 use Rattle.plain_calls.proofs.Called.{IsCalled, enters_it}
 use Rattle.plain_calls.proofs.Saved.{after}
-use Rattle.plain_calls.proofs.Others.{code_after, goal_after, waits_after, hosted_after}
+use Rattle.plain_calls.proofs.Others.{code_after, goal_after, left_after, waits_after, hosted_after}
 use Rattle.plain_calls.proofs.Views.{method_frame, has_entered, method_shown, callers_shown, view_after}
 
 first_of : {A : Type 0} (xs : List A) → 0 < length xs → (x : A) × (slice_get xs 0 ≡ Some x)
@@ -44,6 +44,7 @@ pub record InMethod (h : Host) (b n c older : ℕ) (node : Node) : Type 0 where
   pub goes : Goes instructions h.machine to
   pub hosted : IsHosted (with_machine h to)
   pub goal : word_at to.memory 0x30000000 ≡ word_at h.machine.memory 0x30000000
+  pub left : word_at to.memory 0x30000004 ≡ word_at h.machine.memory 0x30000004
   pub next : Node
   pub runs : RunsAt (with_machine h to) c 0 next
   pub threads : threads_from (with_machine h to) 0 h.statuses ≡ slice_set (threads_from h 0 h.statuses) h.current (Going (method_frame h c ∷ sender_frame h b n node ∷ callers_of h older))
@@ -87,6 +88,7 @@ in_method h b n c at node q room some =
       goes = g.goes;
       hosted = hosted_after h b n c at node q to has;
       goal = goal_after h b n c at node q to has;
+      left = left_after h b n c at node q to has;
       next = first.0;
       runs = runs;
       threads = threads_set h h2 0 h.current h.statuses q.view.sp q.view.pc q.view.known refl (omega arith) q.view.running (waits_after h b n c at node q to has) ∙ ap (λ ys. slice_set (threads_from h 0 h.statuses) h.current (Going ys)) shown;

@@ -32,6 +32,9 @@ code_after h b n c at node q to e x lt = ap (λ z. word_at z x) e.memory_is ∙ 
 pub goal_after : (h : Host) (b n c at : ℕ) (node : Node) → IsCalled h b n c at node → (to : MachineState) → HasEntered h c to → word_at to.memory 0x30000000 ≡ word_at h.machine.memory 0x30000000
 goal_after h b n c at node q to e = ap (λ z. word_at z 0x30000000) e.memory_is ∙ (after h b n c at node q).low 0x30000000 (omega arith)
 
+pub left_after : (h : Host) (b n c at : ℕ) (node : Node) → IsCalled h b n c at node → (to : MachineState) → HasEntered h c to → word_at to.memory 0x30000004 ≡ word_at h.machine.memory 0x30000004
+left_after h b n c at node q to e = ap (λ z. word_at z 0x30000004) e.memory_is ∙ (after h b n c at node q).low 0x30000004 (omega arith)
+
 other_entry : (j k : ℕ) → j ≢ k → entry_frame j / 0x02000000 ≢ entry_frame k / 0x02000000
 other_entry j k ne e = ne (omega (arith, e))
 

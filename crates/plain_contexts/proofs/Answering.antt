@@ -9,7 +9,7 @@ use Rattle.source_model.specs.State.{State}
 use Rattle.source_model.specs.Soundness.{body_in}
 use Rattle.source_model.specs.Step.{step}
 use Rattle.frame_walk.specs.Places.{pending_offset}
-use Rattle.frame_walk.specs.Raw.{becomes, answered_to}
+use Rattle.frame_walk.specs.Raw.{Raw, becomes, answered_to}
 use Rattle.raw_steps.specs.Stands.{Sense, Follows as RawFollows}
 use Rattle.raw_steps.proofs.Leaving.{context_leaves}
 use Rattle.raw_steps.proofs.Answers.{answers_is}
@@ -29,7 +29,7 @@ use Rattle.plain_steps.proofs.Answering.{return_steps, end_steps, some_pending, 
 use Rattle.plain_contexts.specs.Contexts.{AnswersOlder}
 use Rattle.plain_contexts.proofs.Heaped.{InHeap, stored_in_heap, context_in_heap}
 use Rattle.plain_contexts.proofs.Reading.{own_there, not_none, by_context}
-use Rattle.plain_contexts.proofs.Assigning.{stored_kept}
+use Rattle.plain_contexts.proofs.Assigning.{stored_kept, stored_left}
 use Rattle.plain_contexts.proofs.Returned.{can_return, answered_on}
 
 -- the words of a node that ends an activation
@@ -80,7 +80,7 @@ own_answers node is code some z h s b n o f r can owns deep =
     let place = m.regs 17 + 7 in
     let memory = with_word m.memory place (m.regs 0) in
     let answer = word_at m.memory (m.regs 14 + pending_offset (frame_locals (body_in h.bodies b)) (depth_from 0 (body_in h.bodies b).nodes n - 1)) in
-    let a = answered_on h b o answer memory r.view can (stored_kept h place (m.regs 0) can e.in_heap) deep e.ends in
+    let a = answered_on h b o answer memory r.view can (stored_kept h place (m.regs 0) can e.in_heap) (stored_left m.memory place (m.regs 0) e.in_heap) deep e.ends in
     record {
       instructions = a.instructions;
       few = omega (arith, a.few);
@@ -88,6 +88,8 @@ own_answers node is code some z h s b n o f r can owns deep =
       goes = a.goes;
       hosted = a.hosted;
       goal = a.goal;
+      left = a.left;
+      paid = (let up : a.to.regs 6 ≡ m.regs 6 = ap (λ (y : Raw). y.heap.top) a.raw in let sum : h.cost + a.to.regs 3 ≡ h.cost + m.regs 3 = ap (λ (y : Raw). y.cost) a.raw in omega (arith, up, sum));
       body = a.body;
       number = a.number;
       next = a.next;

@@ -53,6 +53,10 @@ stored_kept h at word can there =
       older = refl;
     }
 
+-- what is left to pay isn't that word
+pub stored_left : (m : Words) (at word : ℕ) → InHeap at → word_at (with_word m at word) 0x30000004 ≡ word_at m 0x30000004
+stored_left m at word there = others_stay m at word 0x30000004 (λ e. absurd (omega (arith, e, there.below)))
+
 -- A local that stands in the heap.
 stores_at : (up slot : ℕ) (z : Sense) (h : Host) (s : State) (b n : ℕ) → StandsFor z h s → (r : RunsAt h b n (nodes.Store up slot)) → CanGo h → (at : ℕ) → InHeap at
     → (let m = h.machine in
@@ -78,12 +82,12 @@ stores_at up slot z h s b n f r can at there d follows =
     let one : depth x.nodes n ≡ suc j = omega (arith, depth_is x.nodes n, takes) in
     let next = (can.runs b).ends n node r.node_is refl in
     let deeper : depth x.nodes (n + 1) ≡ j + 1 = depth_more x.nodes n node r.node_is ∙ omega (arith, one) in
-    let g = gone_on h b n node next.0 m1 d.to j 1 (m.regs 24) r can (stored_kept h at value can there) next.1 deeper (omega (arith, one)) mv1 in
+    let g = gone_on h b n node next.0 m1 d.to j 1 (m.regs 24) r can (stored_kept h at value can there) (stored_left m.memory at value there) next.1 deeper (omega (arith, one)) mv1 in
     let v = viewed m b n locals (depth x.nodes n) in
     let top : get_or v.pending 0 0 ≡ value = youngest_is m b n locals (depth x.nodes n) j one in
     let stored : Stored (heap_words m.memory) (heap_words m1.memory) at (get_or v.pending 0 0) = subst (λ (y : ℕ). Stored (heap_words m.memory) (heap_words m1.memory) at y) (sym top) (stored_in_heap m.memory at value can.hosted.within there) in
     let few = node_few h b n node can.runs r.node_is in
-    gone_step z h s b n next.0 _ r.view.older _ _ _ d.to d.instructions (omega (arith, few, d.few)) d.goes f g (follows (heap_words m1.memory) stored)
+    gone_step z h s b n next.0 _ r.view.older _ _ _ d.to d.instructions (omega (arith, few, d.few)) d.goes f g refl (follows (heap_words m1.memory) stored)
 
 own_store : (slot : ℕ) (z : Sense) (h : Host) (s : State) (b n : ℕ) → StandsFor z h s → RunsAt h b n (nodes.Store 0 slot) → CanGo h → owns_context (body_in h.bodies b) ≡ true → IsWellFormed s → DoesStep z h s
 own_store slot z h s b n f r can owns formed =

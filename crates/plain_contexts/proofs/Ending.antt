@@ -35,7 +35,7 @@ use Rattle.plain_sends.proofs.Serving.{set_set}
 use Rattle.plain_sends.proofs.Settling.{stays_there}
 use Rattle.plain_contexts.specs.Contexts.{EndsOldest}
 use Rattle.plain_contexts.proofs.Reading.{by_context}
-use Rattle.plain_contexts.proofs.Assigning.{stored_kept}
+use Rattle.plain_contexts.proofs.Assigning.{stored_kept, stored_left}
 use Rattle.plain_contexts.proofs.Answering.{HasReturn, HasAnswer, leaves, return_is, return_has, end_is, end_has}
 
 -- the host when the current activity has answered
@@ -145,6 +145,9 @@ own_ends node is code some z h s b n f r can owns last =
       to = to;
       goes = e.goes;
       trap = at_trap to ending_stub (ending_stub + 4) 0 9 (Trap 9) stands a stub.0 refl tt;
+      left = ap (λ y. word_at y 0x30000004) R.memory_is ∙ stored_left m.memory place (m.regs 0) g.in_heap;
+      top = R.top;
+      cost = R.cost;
       sense = g.raw.to;
       hosted = hosted_same h1 to R.memory_is (R.register_0 ∙ can.hosted.register_0) windows still.hosted;
       stands = stands_after z h (ended h to) s after f shows refl refl refl g.raw;

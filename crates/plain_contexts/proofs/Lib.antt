@@ -7,3 +7,4 @@ pub mod Returned
 pub mod Answering
 pub mod Ending
 pub mod Making
+pub mod Literals

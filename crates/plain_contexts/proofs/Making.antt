@@ -116,9 +116,9 @@ blocks_made z h s b n map body f r can make d =
     } in
     let next = (can.runs b).ends n node r.node_is refl in
     let deeper : depth x.nodes (n + 1) ≡ depth x.nodes n + 1 = depth_more x.nodes n node r.node_is ∙ omega arith in
-    let g = gone_on h b n node next.0 m1 d.to (depth x.nodes n) 0 (top + 1) r can kept next.1 deeper (omega arith) mv in
+    let g = gone_on h b n node next.0 m1 d.to (depth x.nodes n) 0 (top + 1) r can kept (whole.others 0x30000004 (inr (omega (arith, make.room)))) next.1 deeper (omega arith) mv in
     let paid : h.cost + m.regs 3 + 4 ≤ 4194304 = make.paid in
     let raw = block_made (raw_of h) s z f.stands at.young at.older v callers body at.at map (heap_words memory) framed make.room make.mapped make.told paid in
     let same : h.cost + m.regs 3 + 4 ≡ h.cost + (m.regs 3 + 4) = omega arith in
     let raw2 = subst (λ (c : ℕ). RawFollows z (heaped h (Going (moved_on ((top + 1) ∷ v.pending) v ∷ callers)) (top + 16) c (heap_words memory)) (step s) []) same raw in
-    gone_step z h s b n next.0 _ r.view.older _ _ _ d.to d.instructions (omega (arith, d.few)) d.goes f g raw2
+    gone_step z h s b n next.0 _ r.view.older _ _ _ d.to d.instructions (omega (arith, d.few)) d.goes f g (omega arith) raw2

@@ -192,15 +192,16 @@ pub record AnsweredOn (h : Host) (older answer : ℕ) (mem : Words) : Type 0 whe
   pub goes : Goes instructions h.machine to
   pub hosted : IsHosted (with_machine h to)
   pub goal : word_at to.memory 0x30000000 ≡ word_at h.machine.memory 0x30000000
+  pub left : word_at to.memory 0x30000004 ≡ word_at h.machine.memory 0x30000004
   pub body : ℕ
   pub number : ℕ
   pub next : Node
   pub runs : RunsAt (with_machine h to) body number next
   pub raw : raw_of (with_machine h to) ≡ record (becomes (raw_of h) (answered_to (callers_of h older) answer)) { mem = mem }
 
-pub answered_on : (h : Host) (b o answer : ℕ) (memory : Words) → (r : InFrame h b) → CanGo h → KeptTo h (record h.machine { memory = memory }) (word_at h.machine.memory 0x30000000) → r.older ≡ suc o → Ends h.machine memory answer
+pub answered_on : (h : Host) (b o answer : ℕ) (memory : Words) → (r : InFrame h b) → CanGo h → KeptTo h (record h.machine { memory = memory }) (word_at h.machine.memory 0x30000000) → word_at memory 0x30000004 ≡ word_at h.machine.memory 0x30000004 → r.older ≡ suc o → Ends h.machine memory answer
     → AnsweredOn h r.older answer (heap_words memory)
-answered_on h b o answer memory r can st deep e =
+answered_on h b o answer memory r can st left deep e =
     let m = h.machine in
     let m1 : MachineState = record m { memory = memory } in
     let h1 = with_machine h m1 in
@@ -243,6 +244,7 @@ answered_on h b o answer memory r can st deep e =
       goes = goes_then e.instructions 1 m t1 t2 e.goes p.goes;
       hosted = p.view.hosted;
       goal = p.view.goal ∙ ap (λ y. word_at y 0x30000000) R.memory_is ∙ st.goal_is;
+      left = p.view.left ∙ ap (λ y. word_at y 0x30000004) R.memory_is ∙ left;
       body = c.body;
       number = c.number + 1;
       next = p.next;

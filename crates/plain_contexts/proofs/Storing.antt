@@ -40,16 +40,17 @@ heaped h t top cost mem = record (becomes (raw_of h) t) { mem = mem; heap = reco
 pub record GoneOn (h : Host) (to : MachineState) (b n : ℕ) (next : Node) (now : Frame) (older top cost : ℕ) (mem : Words) : Type 0 where
   pub hosted : IsHosted (with_machine h to)
   pub goal : word_at to.memory 0x30000000 ≡ word_at h.machine.memory 0x30000000
+  pub left : word_at to.memory 0x30000004 ≡ word_at h.machine.memory 0x30000004
   pub runs : RunsAt (with_machine h to) b (n + 1) next
   pub raw : raw_of (with_machine h to) ≡ heaped h (Going (now ∷ callers_of h older)) top cost mem
 
 -- Another machine, which differs from the host's in the heap and in counts, has gone on: a word is pended in place of the q youngest.
-pub gone_on : (h : Host) (b n : ℕ) (node next : Node) (m1 to : MachineState) (j q word : ℕ) → (r : RunsAt h b n node) → CanGo h → KeptTo h m1 (word_at h.machine.memory 0x30000000)
+pub gone_on : (h : Host) (b n : ℕ) (node next : Node) (m1 to : MachineState) (j q word : ℕ) → (r : RunsAt h b n node) → CanGo h → KeptTo h m1 (word_at h.machine.memory 0x30000000) → word_at m1.memory 0x30000004 ≡ word_at h.machine.memory 0x30000004
     → slice_get (body_in h.bodies b).nodes (n + 1) ≡ Some next → depth (body_in h.bodies b).nodes (n + 1) ≡ j + 1 → depth (body_in h.bodies b).nodes n ≡ j + q
     → Moved m1 to (h.machine.pc + 4 * length (poll ++ code_at h b n node)) (pended m1 (frame_locals (body_in h.bodies b)) j word) ((h.machine.regs 2 + 1) % 2 ^ 32)
     → (let f = viewed h.machine b n (frame_locals (body_in h.bodies b)) (depth (body_in h.bodies b).nodes n) in
     GoneOn h to b n next (moved_on (word ∷ drop q f.pending) f) r.view.older (m1.regs 6) (h.cost + m1.regs 3) (heap_words m1.memory))
-gone_on h b n node next m1 to j q word r can st more deeper over mv =
+gone_on h b n node next m1 to j q word r can st left more deeper over mv =
     let m = h.machine in
     let x = body_in h.bodies b in
     let locals = frame_locals x in
@@ -97,6 +98,7 @@ gone_on h b n node next m1 to j q word r can st more deeper over mv =
     record {
       hosted = view.hosted;
       goal = view.goal ∙ st.goal_is;
+      left = view.left ∙ left;
       runs = view.runs;
       raw = λ i. record {
         maps = h.maps;
@@ -109,16 +111,18 @@ gone_on h b n node next m1 to j q word r can st more deeper over mv =
       };
     }
 
--- it meets the source's step
+-- it meets the source's step, where the top goes up as the plain cost does
 pub gone_step : (z : Sense) (h : Host) (s : State) (b n : ℕ) (next : Node) (now : Frame) (older top cost : ℕ) (mem : Words) (to : MachineState) (instructions : ℕ) → instructions ≤ 512 → Goes instructions h.machine to → StandsFor z h s
-    → GoneOn h to b n next now older top cost mem → RawFollows z (heaped h (Going (now ∷ callers_of h older)) top cost mem) (step s) [] → DoesStep z h s
-gone_step z h s b n next now older top cost mem to instructions few goes f g raw = record {
+    → GoneOn h to b n next now older top cost mem → top + 4 * (h.cost + h.machine.regs 3) ≡ h.machine.regs 6 + 4 * cost → RawFollows z (heaped h (Going (now ∷ callers_of h older)) top cost mem) (step s) [] → DoesStep z h s
+gone_step z h s b n next now older top cost mem to instructions few goes f g pays raw = record {
   instructions = instructions;
   few = few;
   to = to;
   goes = goes;
   hosted = g.hosted;
   goal = g.goal;
+  left = g.left;
+  paid = (let up : to.regs 6 ≡ top = ap (λ (y : Raw). y.heap.top) g.raw in let sum : h.cost + to.regs 3 ≡ cost = ap (λ (y : Raw). y.cost) g.raw in omega (arith, up, sum, pays));
   body = b;
   number = n + 1;
   next = next;

@@ -4,6 +4,7 @@ ghost use Rattle.self_terms.specs.declared.nodes.Node.TheVariants as nodes;
 ghost use Rattle.source_model.specs.Formed.{IsWellFormed};
 ghost use Rattle.plain_steps.specs.Steps.{WordsDo};
 ghost use Rattle.plain_contexts.specs.Contexts.{AnswersOlder, EndsOldest};
+ghost use Rattle.plain_contexts.specs.Literals.{LiteralsMake};
 ghost use Rattle.plain_contexts.specs.Making.{BlocksAreMade};
 
 /// A law: in a well-formed state the words of a node that reads a local, or stores in one, do the source's step.
@@ -27,4 +28,9 @@ pub fn oldest_activations_end()
 /// A law: words that make a block do the step of its literal.
 pub fn blocks_are_made()
     ensures { BlocksAreMade }
+{}
+
+/// A law: the words of a block literal make a block and do the source's step, or lead to service 8 where four words more can't be paid.
+pub fn literals_make()
+    ensures { LiteralsMake }
 {}

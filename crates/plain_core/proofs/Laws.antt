@@ -51,8 +51,8 @@ units_fit = ?
 pub units_turn : UnitsTurn
 units_turn = ?
 
-pub marks_tested : MarksMayBeTested
-marks_tested = ?
+pub marks_may_be_tested : MarksMayBeTested
+marks_may_be_tested = ?
 
 pub calls_turn : CallsTurn
 calls_turn = ?
@@ -69,8 +69,8 @@ lacks_end = ?
 pub undefined_end : UndefinedEnd
 undefined_end = ?
 
-pub primitives_apply : PrimitivesMayApply
-primitives_apply = ?
+pub primitives_may_apply : PrimitivesMayApply
+primitives_may_apply = ?
 
 pub fulls_end : FullsEnd
 fulls_end = ?

@@ -45,7 +45,7 @@ use Rattle.plain_core.specs.Language.{Language, IsSpoken}
 use Rattle.plain_core.specs.Turning.{StandsAt, Served, Breaks, Quiet, IsKnown, is_printing, Writes, on, ended}
 use Rattle.plain_core.specs.declared.turning.Turn.{Turn}
 use Rattle.plain_core.specs.declared.turning.Turn.TheVariants as turns
-use Rattle.plain_core.proofs.Laws.{primitives_ask, lacks_end, undefined_end, primitives_apply, fulls_end, failures_end, answers_turn}
+use Rattle.plain_core.proofs.Laws.{primitives_ask, lacks_end, undefined_end, primitives_may_apply, fulls_end, failures_end, answers_turn}
 use Rattle.plain_core.proofs.Fronts.{going_front, breaks_within, breaks_behind}
 use Rattle.plain_core.proofs.Serving.{quietly, quiet_as}
 
@@ -242,7 +242,7 @@ module _ (l : Language) (h : Host) (target : ℕ) (at : StandsAt l h 3 target) w
       known_to from spoken = subst (λ (c : Core). KnowsWords h c core) (sym spoken.core) known
 
       pub may : MayApply h p args core
-      may = primitives_apply h at.from target at.out at.at p args (of_this at.from at.spoken) core (known_to at.from at.spoken)
+      may = primitives_may_apply h at.from target at.out at.at p args (of_this at.from at.spoken) core (known_to at.from at.spoken)
 
       pub operand_at : (word : ℕ) → word ≡ h.machine.regs 8 → (heap : Heap) × Operand h.maps h.machine.memory heap word
       operand_at word e = subst (λ (w : ℕ). (heap : Heap) × Operand h.maps h.machine.memory heap w) (sym e) (heap_of h, may.operand)

@@ -37,7 +37,7 @@ use Rattle.plain_core.specs.Language.{Language, IsSpoken}
 use Rattle.plain_core.specs.Turning.{StandsAt, Served, Quiet, Turned, on, again, ended}
 use Rattle.plain_core.specs.declared.turning.Turn.{Turn}
 use Rattle.plain_core.specs.declared.turning.Turn.TheVariants as turns
-use Rattle.plain_core.proofs.Laws.{traps_tell, goals_end, answers_end, stores_fill, returns_turn, messages_ask, fields_are_read, data_turns, assignments_turn, misses_end, methods_there, units_fit, units_turn, marks_tested, calls_turn, refusals_end}
+use Rattle.plain_core.proofs.Laws.{traps_tell, goals_end, answers_end, stores_fill, returns_turn, messages_ask, fields_are_read, data_turns, assignments_turn, misses_end, methods_there, units_fit, units_turn, marks_may_be_tested, calls_turn, refusals_end}
 use Rattle.plain_core.proofs.Fronts.{no_more, takes_none}
 use Rattle.plain_core.proofs.Keeping.{unwound_entries, unwound_objects, unwound_current}
 
@@ -117,7 +117,7 @@ module _ (l : Language) (h : Host) (target room : ℕ) (at : StandsAt l h 1 targ
     entry_fits entry there = let m = method_there in subst (λ (k : ℕ). k + 4 < 4294967296) (same_Some m.entry entry (sym m.entry_is ∙ there)) m.low
 
     pub mark_there : (entry : ℕ) → slice_get h.entries (c.0 - 1) ≡ Some entry → entry ≢ 0 → MayTestMark h c.0
-    mark_there entry there some = marks_tested h at.from target at.out room at.at fits holder entry c found there some
+    mark_there entry there some = marks_may_be_tested h at.from target at.out room at.at fits holder entry c found there some
 
     pub call_served : (entry : ℕ) → slice_get h.entries (c.0 - 1) ≡ Some entry → entry ≢ 0 → refusal h c.0 ≡ None → Quiet l 1 h (calls (target - count h) (cost_left h) entry holder h) target turns.On
     call_served entry there some through = quietly l 1 h _ target turns.On (Calls at.at.stands room (target - count h) (cost_left h) holder entry c fits found there through) refl

@@ -1,5 +1,5 @@
 //! A stand-in.
-ghost use Rattle.std.specs.Prelude.{◌≡◌, ◌≤◌, ℕ, List, OnOk, OnErr, Err};
+ghost use Rattle.std.specs.Prelude.{◌≡◌, ◌≤◌, ℕ, List, OnOk, OnErr, IsErrOf};
 ghost use Rattle.io_ports.specs.Causes.{Rose, Takes, TakesFront};
 ghost use Rattle.prim_table.specs.Operands.{Operand};
 ghost use Rattle.plain_prims.specs.Services.{heap_of};
@@ -27,8 +27,7 @@ pub fn print<K: Sink>(
     requires { Operand (host _hosting.now).maps (host _hosting.now).machine.memory (heap_of (host _hosting.now)) ((host _hosting.now).machine.regs 8) }
     ensures said { OnOk result ((line : List ℕ) × Says (host _hosting.now) _prim line × Takes (K.taken _out.old) (K.taken _out.new) line) }
     ensures front { OnErr result ((line : List ℕ) × Says (host _hosting.now) _prim line × TakesFront (K.taken _out.old) (K.taken _out.new) line) }
-    ensures later { K.faults _out.old ≤ K.faults _out.new }
-    ensures cause { result ≡ Err Write → Rose (K.faults _out.old) (K.faults _out.new) }
+    ensures cause { (K.faults _out.old ≤ K.faults _out.new) × (IsErrOf result Write → Rose (K.faults _out.old) (K.faults _out.new)) }
 {
     unreachable!()
 }

@@ -1,5 +1,5 @@
 //! A run of so many steps.
-ghost use Rattle.std.specs.Prelude.{◌≡◌, ◌<◌, ◌≤◌, ◌+◌, ◌^◌, ℕ, List, OnOk, OnErr, IfOk, Err};
+ghost use Rattle.std.specs.Prelude.{◌≡◌, ◌<◌, ◌≤◌, ◌+◌, ◌^◌, ℕ, List, OnOk, OnErr, IfOk, IsErrOf};
 ghost use Rattle.io_ports.specs.Causes.{Rose};
 ghost use Rattle.plain_turns.specs.Asking.{count};
 ghost use Rattle.plain_turns.specs.Events.{Reaches};
@@ -60,7 +60,7 @@ fn run_to<K: Sink>(
     ensures grown { walk.old ≤ walk.new }
     ensures broken { OnErr result (Broken language.now (host hosting.old) target (K.taken out.old) (K.taken out.new)) }
     ensures later { K.faults out.old ≤ K.faults out.new }
-    ensures cause { result ≡ Err Write → Rose (K.faults out.old) (K.faults out.new) }
+    ensures cause { IsErrOf result Write → Rose (K.faults out.old) (K.faults out.new) }
 {
     let first = go(hosting, language, target);
     let mut at = Some(first.trap);
@@ -101,7 +101,7 @@ pub fn run<K: Sink>(
     ensures same { OnOk result ((host hosting.new).references ≡ (host hosting.old).references) }
     ensures broken { OnErr result (HasBroken steps language.now (host hosting.old) (K.taken out.old) (K.taken out.new)) }
     ensures later { K.faults out.old ≤ K.faults out.new }
-    ensures cause { result ≡ Err Write → Rose (K.faults out.old) (K.faults out.new) }
+    ensures cause { IsErrOf result Write → Rose (K.faults out.old) (K.faults out.new) }
 {
     hosting.is_whole();
     let target = hosting.steps() + steps as u64;

@@ -1,5 +1,5 @@
 //! A run, by turns: the words go on to a trap, and its service leads on or ends the run.
-ghost use Rattle.std.specs.Prelude.{◌≡◌, ◌<◌, ◌≤◌, ◌+◌, ◌*◌, ◌-◌, ◌^◌, ℕ, List, ◌≢◌, true, false, slice_get, get_or, length, Some, None, IfOk, OnOk, OnErr, Err};
+ghost use Rattle.std.specs.Prelude.{◌≡◌, ◌<◌, ◌≤◌, ◌+◌, ◌*◌, ◌-◌, ◌^◌, ℕ, List, ◌≢◌, true, false, slice_get, get_or, length, Some, None, IfOk, OnOk, OnErr, IsErrOf};
 ghost use Rattle.std.specs.Option.{option_copied, option_and_then};
 ghost use Rattle.io_ports.specs.Causes.{Rose, Takes, TakesFront};
 ghost use Rattle.self_terms.specs.declared.nodes.Node.TheVariants.{Prim};
@@ -698,7 +698,7 @@ fn write_line<K: Sink>(
     ensures said { OnOk result ((line : List ℕ) × Writes (is_printing prim) (host hosting.now) prim line × Takes (K.taken out.old) (K.taken out.new) line) }
     ensures front { OnErr result ((line : List ℕ) × Writes (is_printing prim) (host hosting.now) prim line × TakesFront (K.taken out.old) (K.taken out.new) line) }
     ensures later { K.faults out.old ≤ K.faults out.new }
-    ensures cause { result ≡ Err Write → Rose (K.faults out.old) (K.faults out.new) }
+    ensures cause { IsErrOf result Write → Rose (K.faults out.old) (K.faults out.new) }
 {
     if !is_printing(prim) {
         return Ok(());
@@ -747,12 +747,13 @@ fn apply<K: Sink>(
     ensures grown { walk.old ≤ walk.new }
     ensures broken { OnErr result (Breaks language.now 3 (host hosting.old) target (K.taken out.old) (K.taken out.new)) }
     ensures later { K.faults out.old ≤ K.faults out.new }
-    ensures cause { result ≡ Err Write → Rose (K.faults out.old) (K.faults out.new) }
+    ensures cause { IsErrOf result Write → Rose (K.faults out.old) (K.faults out.new) }
 {
     let core = core_words(hosting, language);
     let goal = left(hosting, language, 3, target) - 1;
     let cost = cost_left(hosting, language, 3, target) - words;
     let applied = hosting.apply_asked(core, prim, args as usize);
+    hosting.is_whole();
     match applied.answer {
         PrimAnswer::Fails(error) => Ok(fail(hosting, language, 3, target, error)),
         PrimAnswer::Done(word) => {
@@ -786,7 +787,7 @@ fn perform_known<K: Sink>(
     ensures grown { walk.old ≤ walk.new }
     ensures broken { OnErr result (Breaks language.now 3 (host hosting.old) target (K.taken out.old) (K.taken out.new)) }
     ensures later { K.faults out.old ≤ K.faults out.new }
-    ensures cause { result ≡ Err Write → Rose (K.faults out.old) (K.faults out.new) }
+    ensures cause { IsErrOf result Write → Rose (K.faults out.old) (K.faults out.new) }
 {
     let words = hosting.words_taken(prim, hosting.register(8));
     if MOST_COST < hosting.cost() + words as u64 {
@@ -815,7 +816,7 @@ fn perform_node<K: Sink>(
     ensures grown { walk.old ≤ walk.new }
     ensures broken { OnErr result (Breaks language.now 3 (host hosting.old) target (K.taken out.old) (K.taken out.new)) }
     ensures later { K.faults out.old ≤ K.faults out.new }
-    ensures cause { result ≡ Err Write → Rose (K.faults out.old) (K.faults out.new) }
+    ensures cause { IsErrOf result Write → Rose (K.faults out.old) (K.faults out.new) }
 {
     match node {
         Node::Prim {
@@ -858,7 +859,7 @@ fn perform<K: Sink>(
     ensures grown { walk.old ≤ walk.new }
     ensures broken { OnErr result (Breaks language.now 3 (host hosting.old) target (K.taken out.old) (K.taken out.new)) }
     ensures later { K.faults out.old ≤ K.faults out.new }
-    ensures cause { result ≡ Err Write → Rose (K.faults out.old) (K.faults out.new) }
+    ensures cause { IsErrOf result Write → Rose (K.faults out.old) (K.faults out.new) }
 {
     match node_here(hosting) {
         None => unreachable!(),
@@ -885,7 +886,7 @@ fn serve<K: Sink>(
     ensures grown { walk.old ≤ walk.new }
     ensures broken { OnErr result (Breaks language.now trap (host hosting.old) target (K.taken out.old) (K.taken out.new)) }
     ensures later { K.faults out.old ≤ K.faults out.new }
-    ensures cause { result ≡ Err Write → Rose (K.faults out.old) (K.faults out.new) }
+    ensures cause { IsErrOf result Write → Rose (K.faults out.old) (K.faults out.new) }
 {
     match trap {
         1 => match send(hosting, alloc, walk, language, target) {
@@ -920,7 +921,7 @@ pub(crate) fn take_turn<K: Sink>(
     ensures grown { walk.old ≤ walk.new }
     ensures broken { OnErr result (Breaks language.now trap (host hosting.old) target (K.taken out.old) (K.taken out.new)) }
     ensures later { K.faults out.old ≤ K.faults out.new }
-    ensures cause { result ≡ Err Write → Rose (K.faults out.old) (K.faults out.new) }
+    ensures cause { IsErrOf result Write → Rose (K.faults out.old) (K.faults out.new) }
 {
     match serve(hosting, alloc, walk, language, out, trap, target)? {
         Turn::On => {

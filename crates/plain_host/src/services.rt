@@ -11,7 +11,7 @@ use self_terms::{ErrorName, Place};
 /// What is left of the goal, and of the plain cost, at the last service.
 const GOAL_LEFT: u32 = 0x3000_0000;
 
-const COST_LEFT: u32 = 0x3000_0004;
+pub(crate) const COST_LEFT: u32 = 0x3000_0004;
 
 // The word of a holder as it is handed to a method: 0 where that is the receiver.
 fn handed(receiver: u32, holder: u32) -> u32

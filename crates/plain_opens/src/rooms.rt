@@ -23,7 +23,7 @@ fn left_behind(body: &Body, left: usize) -> Option<usize>
     if locals > left {
         return None;
     }
-    let words = 26 * nodes + 16 * (arguments + locals) + 64;
+    let words = 80 * nodes + 16 * (arguments + locals) + 40;
     if words > left {
         return None;
     }

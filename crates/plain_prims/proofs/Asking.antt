@@ -231,7 +231,7 @@ module _ (name : Name) (args : ℕ) (implied handler : Bool) (z : Sense) (h : Ho
   first_place = omega (arith, enough, depth_is (body_in h.bodies b).nodes n)
 
   -- the node asks for the service by the trap that is its last word but one
-  performed : (k : ℕ) → Asks h.machine 3 (h.machine.pc + 24 + 4 * k) (handed_receiver h.machine implied its_locals first_value) its_locals (first_handed implied first_value) (args + one_if handler)
+  pub performed : (k : ℕ) → Asks h.machine 3 (h.machine.pc + 24 + 4 * k) (handed_receiver h.machine implied its_locals first_value) its_locals (first_handed implied first_value) (args + one_if handler)
       → length (code_at h b n the_node) ≡ k + 2 → IsPerformed z h s b n name args implied handler r
   performed k a long =
       let m = h.machine in

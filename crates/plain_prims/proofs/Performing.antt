@@ -127,6 +127,8 @@ answers_perform z h s b n name args implied handler r q f can memory heap word e
       goes = to.goes;
       hosted = to.hosted;
       goal = to.goal;
+      left = to.left;
+      paid = omega (arith, to.top_is, to.cost_is);
       body = b;
       number = n + 1;
       next = to.next;
@@ -148,6 +150,8 @@ silent_step z h s d = record {
   goes = d.goes;
   hosted = d.hosted;
   goal = d.goal;
+  left = d.left;
+  paid = d.paid;
   body = d.body;
   number = d.number;
   next = d.next;

@@ -36,6 +36,9 @@ pub record Served (h after : Host) (b n older word : ℕ) (rest : List ℕ) (f :
   pub next : Node
   pub hosted : IsHosted (with_machine after to)
   pub goal : word_at to.memory 0x30000000 ≡ word_at after.machine.memory 0x30000000
+  pub left : word_at to.memory 0x30000004 ≡ word_at after.machine.memory 0x30000004
+  pub top_is : to.regs 6 ≡ after.machine.regs 6
+  pub cost_is : to.regs 3 ≡ after.machine.regs 3
   pub runs : RunsAt (with_machine after to) b (n + 1) next
   pub raw : raw_of (with_machine after to) ≡ raw_after (raw_of h) mem heap (Going (moved_on (word ∷ rest) f ∷ callers_of h older)) cost
 
@@ -87,6 +90,9 @@ behind_service h b n node goal at steps sum number m1 r can st stands1 behind ta
       next = p.next;
       hosted = hosted_as steps sum number h2 p.view.hosted;
       goal = p.view.goal;
+      left = p.view.left;
+      top_is = p.top;
+      cost_is = p.cost;
       runs = runs_as steps sum number h2 b (n + 1) p.next p.view.runs;
       raw = λ i. record {
         maps = h.maps;

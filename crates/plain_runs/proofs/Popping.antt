@@ -311,6 +311,7 @@ answer_follows h b o answer r hosted run low left deep e =
       on = record {
         hosted = v.hosted;
         goal = v.goal ∙ ap (λ z. word_at z 0x30000000) R.memory_is;
+        left = v.left ∙ ap (λ z. word_at z 0x30000004) R.memory_is;
         raw = λ i. record {
           maps = h.maps;
           mem = (ch.heap ∙ ap heap_words R.memory_is) i;

@@ -213,6 +213,7 @@ seen_as d m older e = ap (λ n. activations d m.memory n (m.regs 14) (kept m.reg
 pub record ViewOn (h : Host) (to : MachineState) (b n : ℕ) (next : Node) (now : Frame) (older : ℕ) : Type 0 where
   pub hosted : IsHosted (with_machine h to)
   pub goal : word_at to.memory 0x30000000 ≡ word_at h.machine.memory 0x30000000
+  pub left : word_at to.memory 0x30000004 ≡ word_at h.machine.memory 0x30000004
   pub runs : RunsAt (with_machine h to) b n next
   pub threads : threads_from (with_machine h to) 0 h.statuses ≡ slice_set (threads_from h 0 h.statuses) h.current (Going (now ∷ callers_of h older))
 
@@ -267,6 +268,7 @@ view_on h b n next to now r hosted run low c keeps held_same stands poll next_is
         goal = omega (arith, c.changed 0x30000000 (inl (omega (arith, c.high))), hosted.goal);
       };
       goal = c.changed 0x30000000 (inl (omega (arith, c.high)));
+      left = c.changed 0x30000004 (inl (omega (arith, c.high)));
       runs = record {
         view = record {
           sp = r.sp;
@@ -293,6 +295,7 @@ pub view_goes_on : (h : Host) (b n : ℕ) (next : Node) (to : MachineState) (now
 view_goes_on h b n next to now older v heap counted cost top = record {
   hosted = v.hosted;
   goal = v.goal;
+  left = v.left;
   raw = λ i. record {
     maps = h.maps;
     mem = heap i;

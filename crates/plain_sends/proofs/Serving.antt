@@ -51,6 +51,8 @@ pub record Served (h after : Host) (b n older word : ℕ) (rest : List ℕ) (f :
   pub next : Node
   pub hosted : IsHosted (with_machine after to)
   pub goal : word_at to.memory 0x30000000 ≡ word_at after.machine.memory 0x30000000
+  pub left : word_at to.memory 0x30000004 ≡ word_at after.machine.memory 0x30000004
+  pub paid : to.regs 6 + 4 * after.machine.regs 3 ≡ after.machine.regs 6 + 4 * to.regs 3
   pub runs : RunsAt (with_machine after to) b (n + 1) next
   pub raw : raw_of (with_machine after to) ≡ record (becomes (raw_of h) (Going (moved_on (word ∷ rest) f ∷ callers_of h older))) { mem = mem }
 
@@ -117,6 +119,8 @@ behind_service h b n node goal at steps sum m1 r can st stands1 behind takes ste
       next = p.next;
       hosted = hosted_as steps sum h2 p.view.hosted;
       goal = p.view.goal;
+      left = p.view.left;
+      paid = omega (arith, p.top, p.cost);
       runs = runs_as steps sum h2 b (n + 1) p.next p.view.runs;
       raw = λ i. record {
         maps = h.maps;
@@ -158,6 +162,8 @@ served h b n node word goal cost at receiver k args r can few a behind low takes
       next = v.next;
       hosted = v.hosted;
       goal = v.goal;
+      left = v.left;
+      paid = v.paid;
       runs = v.runs;
       raw = v.raw ∙ ap (λ (y : Words). record (becomes (raw_of h) (Going (moved_on (word ∷ drop (taken node) f.pending) f ∷ callers_of h r.view.older))) { mem = y }) whole1.heap;
     }

@@ -44,6 +44,13 @@ control_stays m at w high = put_heap m (place_of at) w (λ k e. no_heap at k hig
 has_goal : HasWord 0x30000000
 has_goal = (omega arith, inr (inr (inl (omega arith, omega arith))))
 
+has_cost : HasWord 0x30000004
+has_cost = (omega arith, inr (inr (inl (omega arith, omega arith))))
+
+-- what is left of the plain cost stands in word 1
+pub left_is : (m : Words) (goal cost : ℕ) → IsWithin m → word_at (with_left m goal cost) 0x30000004 ≡ cost
+left_is m goal cost whole = put_there (with_word m 0x30000000 goal) 0x30000004 cost (put_stays_within m 0x30000000 goal whole) has_cost
+
 pub controlled : (m : Words) (goal cost : ℕ) → IsWithin m → Controlled m (with_left m goal cost) goal
 controlled m goal cost whole = record {
   others = λ b n0 n1. others_stay (with_word m 0x30000000 goal) 0x30000004 cost b n1 ∙ others_stay m 0x30000000 goal b n0;

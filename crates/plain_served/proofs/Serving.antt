@@ -4,36 +4,30 @@ use Rattle.std.specs.Prelude.{Bool, true, false, not, nat_lt, nat_le, ◌&&◌, 
 use Rattle.self_terms.specs.declared.errors.ErrorName.{ErrorName}
 use Rattle.self_terms.specs.declared.errors.ErrorName.TheVariants as errors
 use Rattle.self_terms.specs.declared.nodes.Node.{Node}
-use Rattle.self_terms.specs.declared.nodes.Node.TheVariants as nodes
-use Rattle.self_terms.specs.declared.nodes.Selector.{Selector}
 use Rattle.self_terms.specs.declared.values.BodyId.{BodyId}
 use Rattle.self_terms.specs.declared.values.Value.{Value}
 use Rattle.self_terms.specs.declared.values.Value.TheVariants as values
+use Rattle.sparc_machine.specs.State.{MachineState}
+use Rattle.source_model.specs.Messages.{Met}
 use Rattle.source_model.specs.Soundness.{body_in}
-use Rattle.source_model.specs.State.{Activation, State}
+use Rattle.source_model.specs.State.{State}
 use Rattle.raw_steps.specs.Stands.{Sense}
 use Rattle.plain_words.specs.Units.{owns_context, of_block}
 use Rattle.plain_runs.specs.Host.{Host}
 use Rattle.plain_runs.specs.Sound.{RunsAt}
 use Rattle.plain_runs.specs.Course.{with_machine, CanGo}
+use Rattle.plain_steps.specs.Paying.{IsPaid, HasMaps}
 use Rattle.plain_steps.specs.Steps.{StandsFor}
-use Rattle.plain_sends.specs.Sends.{IsSent, met_of}
+use Rattle.plain_sends.specs.Messages.{IsMessaged}
 use Rattle.plain_answers.specs.Found.{IsMethod}
-use Rattle.plain_lookups.specs.Telling.{IsEvaluated, begins_at, sent_to}
-use Rattle.plain_lookups.proofs.Telling.{founds_tell}
+use Rattle.plain_lookups.specs.Telling.{IsEvaluated}
 use Rattle.plain_evaluates.specs.Evaluates.{CanKeep, IsOpen, context_words}
 use Rattle.plain_evaluates.specs.Refusing.{is_live, IsError}
-use Rattle.plain_evaluates.proofs.Blocks.{blocks_pay}
-use Rattle.plain_evaluates.proofs.Marks.{decides}
-use Rattle.plain_evaluates.proofs.Methods.{methods_pay}
+use Rattle.plain_evaluates.proofs.Blocks.{blocks_entered}
+use Rattle.plain_evaluates.proofs.Marks.{marks_decide}
+use Rattle.plain_evaluates.proofs.Methods.{methods_entered}
 use Rattle.plain_evaluates.proofs.Refused.{methods_refused, blocks_refused}
-use Rattle.plain_served.specs.Serving.{is_gone, is_deep, is_costly, HasHeap, IsCallable, IsServed, MethodsAreServed}
-
--- the value at which a lookup begins is the message's receiver
-begins_sent : (node : Node) (a : Activation) (v : Value) → begins_at node a ≡ Some v → sent_to node a ≡ v
-begins_sent (nodes.Send sel) a v e = cc
-begins_sent (nodes.SelfSend sel) a v e = cc
-begins_sent _ a v e = absurd (cc)
+use Rattle.plain_served.specs.Serving.{is_gone, is_deep, is_costly, IsCallable, IsServed, MethodsAreServed}
 
 -- what the tests name
 abbrev chosen : Bool → Bool → Bool → Option ErrorName
@@ -90,17 +84,27 @@ none_gone : {A : Type 0} (block live : Bool) → block ≡ false → (block && n
 none_gone true live e g = absurd (cc)
 none_gone false live e g = absurd (cc)
 
--- what the heap has left for the plain cost that is left is room for a context that can be paid
-keeps : (owns : Bool) (h : Host) (b cost : ℕ) → cost ≡ h.machine.regs 3 → HasHeap h → (owns && nat_lt 4194304 (h.cost + cost + context_words h b)) ≡ false → CanKeep owns h b
-keeps false h b cost same heap cheap = tt
-keeps true h b cost same heap cheap =
+-- what is left of the plain cost pays for a context, and has room in the heap
+keeps : (owns : Bool) (start : ℕ) (h : Host) (b cost : ℕ) → cost ≡ h.machine.regs 3 → IsPaid start h → HasMaps h → (owns && nat_lt 4194304 (h.cost + cost + context_words h b)) ≡ false → CanKeep owns h b
+keeps false start h b cost same paid maps cheap = tt
+keeps true start h b cost same paid maps cheap =
     let most = not_more 4194304 (h.cost + cost + context_words h b) cheap in
-    record { mapped = heap.mapped; small = heap.small; room = omega (arith, heap.room, most, same); paid = omega (arith, most, same) }
+    record {
+      mapped = maps.contexts;
+      small = omega (arith, maps.contexts, maps.few);
+      room = omega (arith, paid.room, paid.top, most, same);
+      paid = omega (arith, most, same);
+    }
 
-module _ (z : Sense) (h : Host) (s : State) (b n : ℕ) (node : Node) (sel : Selector) (r : RunsAt h b n node) (q : IsSent z h s b n node sel r) (stood : StandsFor z h s) (can : CanGo h) (heap : HasHeap h) (holder : ℕ) (c : BodyId) (at : ℕ)
-    (callable : IsCallable z h s b n node sel r q holder c at) where
+-- a block's test reads nothing where the body is a method's
+no_test : {A : Type 0} (block : Bool) → block ≡ false → block ≡ true → A
+no_test true e f = absurd (cc)
+no_test false e f = absurd (cc)
+
+module _ (start : ℕ) (z : Sense) (h : Host) (s : State) (b n : ℕ) (node : Node) (args name : ℕ) (met : Met) (r : RunsAt h b n node) (to : MachineState) (q : IsMessaged z h s b n node args name met r to) (stood : StandsFor z h s) (can : CanGo h) (paid : IsPaid start h) (maps : HasMaps h)
+    (receiver : Option Value) (holder : ℕ) (c : BodyId) (at : ℕ) (callable : IsCallable z h s args name met to receiver holder c at) where
   abbrev ht : Host
-  ht = with_machine h q.asks.to
+  ht = with_machine h to
 
   abbrev gone : Bool
   gone = is_gone ht c.0
@@ -112,52 +116,53 @@ module _ (z : Sense) (h : Host) (s : State) (b n : ℕ) (node : Node) (sel : Sel
   costly = is_costly ht c.0
 
   abbrev Is : ErrorName → Type 0
-  Is e = IsError z h s b n node sel r q e
+  Is e = IsError z h s b n node args name met r to q e
 
-  opens : (block : Bool) → of_block (body_in h.bodies c.0) ≡ block → Passed gone deep costly → IsOpen h c.0 at sel.args r.view.older block
+  opens : (block : Bool) → of_block (body_in h.bodies c.0) ≡ block → Passed gone deep costly → IsOpen h c.0 at args r.view.older block
   opens block kind p =
-      let few = is_less 4096 (q.asks.to.regs 4) p.few in
+      let few = is_less 4096 (to.regs 4) p.few in
       record {
         unit = callable.unit;
         kind = kind;
         some = callable.some;
         same = callable.same;
-        few = omega (arith, few, q.asks.moved.kept 4 refl, r.view.count);
-        keeps = keeps (owns_context (body_in h.bodies c.0)) h c.0 (q.asks.to.regs 3) (q.asks.moved.kept 3 refl) heap p.cheap;
+        few = omega (arith, few, q.moved.kept 4 refl, r.view.count);
+        keeps = keeps (owns_context (body_in h.bodies c.0)) start h c.0 (to.regs 3) (q.moved.kept 3 refl) paid maps p.cheap;
       }
 
-  method_served : IsMethod z s (met_of node s q.sender) holder c → IsServed z h s b n node sel r q holder c at
+  method_served : IsMethod z s met holder c → IsServed z h s b n node args name met r to q holder c at
   method_served m =
       let kind = callable.method m in
-      let refused = methods_refused z h s b n node sel r q stood can m.object c m.met_is m.inside in
+      let refused = methods_refused z h s b n node args name met r to q stood can m.object c m.met_is m.inside in
       record {
-        refused = λ e is. by_tests Is gone deep costly e is (λ g. none_gone (of_block (body_in h.bodies c.0)) (is_live q.asks.to) kind g) (λ g d. refused.overflow (is_most 4096 (q.asks.to.regs 4) d))
-            (λ g d k. (let two = both (owns_context (body_in h.bodies c.0)) (nat_lt 4194304 (h.cost + q.asks.to.regs 3 + context_words h c.0)) k in
-            refused.full (is_less 4096 (q.asks.to.regs 4) d) two.0 (is_more 4194304 (h.cost + q.asks.to.regs 3 + context_words h c.0) two.1)));
-        called = λ is goal cost low. methods_pay z h s b n node sel r q stood can m.object c holder at m.met_is m.inside m.there (opens false kind (passed gone deep costly is)) goal cost low;
+        mark = λ is. no_test (of_block (body_in h.bodies c.0)) kind is;
+        refused = λ e is. by_tests Is gone deep costly e is (λ g. none_gone (of_block (body_in h.bodies c.0)) (is_live to) kind g) (λ g d. refused.overflow (is_most 4096 (to.regs 4) d))
+            (λ g d k. (let two = both (owns_context (body_in h.bodies c.0)) (nat_lt 4194304 (h.cost + to.regs 3 + context_words h c.0)) k in
+            refused.full (is_less 4096 (to.regs 4) d) two.0 (is_more 4194304 (h.cost + to.regs 3 + context_words h c.0) two.1)));
+        called = λ is goal cost low. methods_entered z h s b n node args name met r to q stood can m.object c holder at m.met_is m.inside m.there (opens false kind (passed gone deep costly is)) goal cost low;
       }
 
-  block_served : (block : BodyId) (maker : ℕ) → q.message.receiver ≡ values.Block block maker → c ≡ block → (v : IsEvaluated z s (begins_at node q.sender) (met_of node s q.sender) sel.name.0 holder c (q.asks.to.regs 8)) → IsServed z h s b n node sel r q holder c at
-  block_served block maker receiver same v =
+  block_served : (block : BodyId) (maker : ℕ) → q.message.receiver ≡ values.Block block maker → c ≡ block → (v : IsEvaluated z s receiver met name holder c (to.regs 8)) → IsServed z h s b n node args name met r to q holder c at
+  block_served block maker its_block same v =
       let kind = callable.block v in
-      let its : q.message.receiver ≡ values.Block c maker = receiver ∙ ap (λ k. values.Block k maker) (sym same) in
-      let d = decides z h s b n node sel r q stood can c maker its in
+      let its : q.message.receiver ≡ values.Block c maker = its_block ∙ ap (λ k. values.Block k maker) (sym same) in
+      let d = marks_decide z h s b n node args name met r to q stood can c maker its in
       let own : length s.things ≤ length s.things = omega arith in
-      let refused = blocks_refused z h s b n node sel r q stood can (length s.things) c c maker v.evaluates.met_is own its in
+      let refused = blocks_refused z h s b n node args name met r to q stood can (length s.things) c c maker v.evaluates.met_is own its in
       record {
-        refused = λ e is. by_tests Is gone deep costly e is (λ g. refused.gone (gone_is (of_block (body_in h.bodies c.0)) (is_live q.asks.to) kind g))
-            (λ g k. refused.overflow (live_is (of_block (body_in h.bodies c.0)) (is_live q.asks.to) kind g) (is_most 4096 (q.asks.to.regs 4) k))
-            (λ g k t. (let two = both (owns_context (body_in h.bodies c.0)) (nat_lt 4194304 (h.cost + q.asks.to.regs 3 + context_words h c.0)) t in
-            refused.full (live_is (of_block (body_in h.bodies c.0)) (is_live q.asks.to) kind g) (is_less 4096 (q.asks.to.regs 4) k) two.0 (is_more 4194304 (h.cost + q.asks.to.regs 3 + context_words h c.0) two.1)));
+        mark = λ is. (d.block, d.context);
+        refused = λ e is. by_tests Is gone deep costly e is (λ g. refused.gone (gone_is (of_block (body_in h.bodies c.0)) (is_live to) kind g))
+            (λ g k. refused.overflow (live_is (of_block (body_in h.bodies c.0)) (is_live to) kind g) (is_most 4096 (to.regs 4) k))
+            (λ g k t. (let two = both (owns_context (body_in h.bodies c.0)) (nat_lt 4194304 (h.cost + to.regs 3 + context_words h c.0)) t in
+            refused.full (live_is (of_block (body_in h.bodies c.0)) (is_live to) kind g) (is_less 4096 (to.regs 4) k) two.0 (is_more 4194304 (h.cost + to.regs 3 + context_words h c.0) two.1)));
         called = λ is goal cost low. (let p = passed gone deep costly is in
-            let y = d.live (live_is (of_block (body_in h.bodies c.0)) (is_live q.asks.to) kind p.here) in
-            blocks_pay z h s b n node sel r q stood can (length s.things) c c maker holder at v.evaluates.met_is own its y.0 y.1 (opens true kind p) goal cost low);
+            let y = d.live (live_is (of_block (body_in h.bodies c.0)) (is_live to) kind p.here) in
+            blocks_entered z h s b n node args name met r to q stood can (length s.things) c c maker holder at v.evaluates.met_is own its y.0 y.1 (opens true kind p) goal cost low);
       }
 
 pub methods_served : MethodsAreServed
-methods_served z h s b n node sel r q selects stood can heap few room enough holder c at found callable =
-    let f = founds_tell z h s b n node sel r q selects stood can few room enough in
-    elim (f.tells.method holder c found) [
-      | inl m ↦ method_served z h s b n node sel r q stood can heap holder c at callable m
-      | inr v ↦ block_served z h s b n node sel r q stood can heap holder c at callable v.block v.maker (f.message ∙ begins_sent node q.sender (values.Block v.block v.maker) v.receiver_is) v.evaluates.body_is v
+methods_served start z h s b n node args name met r to q stood can paid maps few receiver received found tells holder c at is callable =
+    elim (tells.method holder c is) [
+      | inl m ↦ method_served start z h s b n node args name met r to q stood can paid maps receiver holder c at callable m
+      | inr v ↦ block_served start z h s b n node args name met r to q stood can paid maps receiver holder c at callable v.block v.maker (received (values.Block v.block v.maker) v.receiver_is) v.evaluates.body_is v
     ]

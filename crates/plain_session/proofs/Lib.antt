@@ -5,3 +5,4 @@ pub mod Writing
 pub mod Keeping
 pub mod Obeying
 pub mod Switching
+pub mod Naming

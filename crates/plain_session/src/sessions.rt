@@ -15,7 +15,9 @@ ghost use Rattle.run_lines.specs.Standing.{GoesOn, IsStanding};
 ghost use Rattle.run_lines.specs.declared.current.Standing.TheVariants as standings;
 ghost use Rattle.source_model.specs.State.{State};
 ghost use Rattle.plain_turns.specs.Resting.{Rests};
+ghost use Rattle.world_blocks.specs.Sessions.{session_names};
 ghost use Rattle.world_state.specs.Begun.{begun};
+ghost use Rattle.world_test.specs.Further.{starts_fixed};
 ghost use Rattle.plain_session.specs.Commands.{is_built, obeyed, gated_continue};
 ghost use Rattle.plain_session.specs.Sessions.{host_of, Shows, IsShown, Obeys, IsLed, CanCount, CountsFew, birth_text};
 
@@ -29,7 +31,7 @@ use source_model::Core;
 use std::alloc::Global;
 use std::marker::Model;
 use world_heap::WorldImage;
-use world_test::number_of;
+use world_test::{number_of, session_names};
 
 /// Machine and host of a world; room for walks over its objects; the texts of its names; the objects that the language itself knows; and how many
 /// instructions the machine has done, and how many services the host has given.
@@ -100,18 +102,20 @@ fn birth_line(hosting: &Hosting, birth: Birth) -> LineText<'static>
 }
 
 impl Session {
-    /// The session over a world with these names, which shows the state with which it begins.
-    pub fn open(alloc: Global, image: WorldImage, names: Names) -> Result<Session, OutOfMemory>
+    /// The session over a world, with its names and those that a session has behind them, which shows the state with which it begins.
+    pub fn open(alloc: Global, image: WorldImage) -> Result<Session, OutOfMemory>
         requires opens { CanOpen image.world }
-        requires formed { IsWellFormed (begun image.world names 0) }
-        requires sums { NamesSums names }
-        requires few { length names ≤ 500000000 }
-        ensures shows { IfOk result (λ x. Shows x (begun image.world names 0)) }
+        requires formed { IsWellFormed (begun image.world (session_names image.world) 0) }
+        requires sums { NamesSums (session_names image.world) }
+        requires fixed { starts_fixed image.world.names ≡ true }
+        requires few { length image.world.names ≤ 450000000 }
+        ensures shows { IfOk result (λ x. Shows x (begun image.world (session_names image.world) 0)) }
         ensures idle { IfOk result (λ x. (host_of x).statuses ≡ []) }
         ensures instructions { IfOk result (λ x. x.instructions ≡ 0) }
         ensures services { IfOk result (λ x. x.services ≡ 0) }
     {
         let core = image.world().core();
+        let names = session_names(alloc, image.world().names())?;
         let hosting = plain_opens::open(alloc, image)?;
         let walk = Walk::open(alloc, hosting.next())?;
         Ok(Session {

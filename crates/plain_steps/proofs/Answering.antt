@@ -39,7 +39,7 @@ use Rattle.plain_runs.proofs.Popping.{answer_follow}
 use Rattle.plain_runs.specs.Units.{node_offset}
 use Rattle.plain_steps.specs.Steps.{WordsAnswer}
 use Rattle.plain_steps.proofs.Here.{at_node_of}
-use Rattle.plain_steps.proofs.Words.{depth_is, room_of, stands_after, step_counted}
+use Rattle.plain_steps.proofs.Words.{depth_is, room_of, stands_after, step_counted, paid_on}
 
 first_laid : (asked : ℕ → ℕ → ℕ → Type 0) (entry end : ℕ) (memory : Words) (n sp : ℕ) (w : Window) (pc : ℕ) (held : List Window) → AreLaid asked entry end memory (suc n) sp w pc held → asked pc sp (w 14)
 unfolding AreLaid
@@ -122,6 +122,8 @@ answer_steps node ends code some z h s b n o f r can plain deep =
       goes = a.goes;
       hosted = a.on.hosted;
       goal = a.on.goal;
+      left = a.on.left;
+      paid = paid_on h a.to (answered_to (callers_of h (suc o)) (word_at m.memory (m.regs 14 + pending_offset locals j))) a.on.raw;
       body = a.body;
       number = a.number;
       next = a.next;

@@ -6,3 +6,4 @@ pub mod Restarting
 pub mod Storing
 pub mod Ending
 pub mod Summing
+pub mod Paying

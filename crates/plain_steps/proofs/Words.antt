@@ -1,11 +1,12 @@
 -- Nodes that are done in words.
-use Rattle.std.proofs.Common.{◌≡◌, ℕ, suc, ◌+◌, ◌<◌, refl, ◌∙◌, ap, sym, subst, arith}
+use Rattle.std.proofs.Common.{◌≡◌, ℕ, suc, ◌+◌, ◌*◌, ◌<◌, refl, ◌∙◌, ap, sym, subst, arith}
 use Rattle.std.specs.Prelude.{true, List, [], ◌∷◌, length, Some, slice_get, ℤ}
 use Rattle.std.proofs.lemmas.Option.{slice_get-get_or}
 use Rattle.self_terms.specs.declared.nodes.Node.{Node}
 use Rattle.self_terms.specs.declared.nodes.Node.TheVariants as nodes
 use Rattle.self_terms.specs.Words.{IsSmall, word_of}
 use Rattle.self_terms.specs.Depths.{grown, depth, depth_from, is_inner}
+use Rattle.sparc_machine.specs.State.{MachineState}
 use Rattle.source_model.specs.State.{State}
 use Rattle.source_model.specs.Soundness.{body_in}
 use Rattle.source_model.specs.Step.{step}
@@ -54,6 +55,10 @@ stands_after z h to s r f is maps bodies references raw =
 pub step_counted : (z : Sense) (h : Host) (s : State) (now : Thread) → StandsFor z h s → RawFollows z (becomes (raw_of h) now) (step s) [] → (step s).state.steps ≡ s.steps + 1
 step_counted z h s now f raw = sym raw.stands.steps ∙ ap (λ x. x + 1) f.stands.steps
 
+-- a machine that shows the next raw state puts nothing at the heap's top, and pays nothing
+pub paid_on : (h : Host) (to : MachineState) (now : Thread) → raw_of (with_machine h to) ≡ becomes (raw_of h) now → to.regs 6 + 4 * h.machine.regs 3 ≡ h.machine.regs 6 + 4 * to.regs 3
+paid_on h to now e = omega (arith, ap (λ (r : Raw). r.heap.top) e, ap (λ (r : Raw). r.cost) e)
+
 -- what follows in words and what follows in the source meet in the raw state
 pub meets_step : (z : Sense) (h : Host) (s : State) (b n : ℕ) (next : Node) (now : Thread) → StandsFor z h s → Follows h b n next now → RawFollows z (becomes (raw_of h) now) (step s) [] → DoesStep z h s
 meets_step z h s b n next now stood f raw = record {
@@ -63,6 +68,8 @@ meets_step z h s b n next now stood f raw = record {
   goes = f.goes;
   hosted = f.on.hosted;
   goal = f.on.goal;
+  left = f.on.left;
+  paid = paid_on h f.to now f.on.raw;
   body = b;
   number = n;
   next = next;

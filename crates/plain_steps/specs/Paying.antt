@@ -21,9 +21,10 @@ pub record IsBlocksMap (maps : List Slots) (b map : ℕ) : Type 0 where
   pub there : map < length maps
   pub told : (context receiver : ℕ) → IsTold maps (Block map b context receiver)
 
--- Units know a map of contexts, and for each body of a block that of its blocks.
+-- Units know a map of contexts, and for each body of a block that of its blocks; bodies and maps have numbers that fit a tagged word.
 pub record HasMaps (h : Host) : Type 0 where
   pub few : length h.maps < 2 ^ 30
+  pub bodies : length h.bodies < 2 ^ 30
   pub contexts : h.references.contexts < length h.maps
   pub blocks : (b outer : ℕ) → HasBody h.bodies b → (body_in h.bodies b).outer ≡ Some outer → IsBlocksMap h.maps b (slice_index h.references.blocks (b - 1))
 

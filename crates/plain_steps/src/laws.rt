@@ -4,6 +4,7 @@ ghost use Rattle.self_terms.specs.declared.names.TheConstants.{INT_ADD, INT_SUB}
 ghost use Rattle.self_terms.specs.Words.{IsSmall};
 ghost use Rattle.self_terms.specs.declared.nodes.Node.TheVariants as nodes;
 ghost use Rattle.plain_steps.specs.Steps.{Always, AreIntegers, WordsAnswer, WordsDo, WordsEnd, WordsPerform, WordsRead, WordsStore};
+ghost use Rattle.plain_steps.specs.Paying.{StepsPay};
 
 /// A law: the words of a node do the source's step.
 pub fn words_do_steps()
@@ -30,4 +31,9 @@ pub fn words_end_activities()
 /// A law: the words of a primitive do the source's step, where it is a sum or a difference of integers that comes to one; else they ask for service 3.
 pub fn primitives_perform()
     ensures { WordsPerform }
+{}
+
+/// A law: words that leave what was left to pay, and pay for what they put at the heap's top, keep the heap's room paid for.
+pub fn steps_pay()
+    ensures { StepsPay }
 {}

@@ -21,7 +21,7 @@ use Rattle.plain_steps.specs.Steps.{StandsFor}
 use Rattle.plain_sends.proofs.Settling.{controlled, SettledTo}
 use Rattle.plain_sends.proofs.Resumming.{hosted_as}
 use Rattle.plain_stretches.proofs.Settled.{high_cleared, set_there, set_elsewhere, set_long, kept_settled}
-use Rattle.plain_stretches.specs.Standing.{IsSound, HostsSettle, EndsSettle, FailuresSettle}
+use Rattle.plain_stretches.specs.Standing.{IsSound, HostsSettle, EndsSettle}
 
 -- What shows the same stands for the same.
 pub stands_as : (z : Sense) (h to : Host) (s : State) → raw_of to ≡ raw_of h → to.bodies ≡ h.bodies → to.references ≡ h.references → StandsFor z h s → StandsFor z to s
@@ -147,6 +147,3 @@ hosts_settle h hosted run goal cost few =
 
 pub ends_settle : EndsSettle
 ends_settle z h s x e goal cost few = closes e.sense (with_machine h e.to) _ (Answered (e.to.regs 8)) (λ sp pc n same. cc) e.hosted x.runs x.current e.stands goal cost few
-
-pub failures_settle : FailuresSettle
-failures_settle z h s e p hosted run current f goal cost few = closes z h s (Failed e p) (λ sp pc n same. cc) hosted run current f goal cost few

@@ -3,7 +3,7 @@ pub mod Polls
 pub mod Settled
 pub mod Closing
 pub mod Waiting
-pub mod Owned
+pub mod Named
 pub mod Gated
 pub mod Nodes
 pub mod Joining

@@ -1,61 +1,69 @@
 -- From a poll to the next trap, and from behind a service.
-use Rattle.std.proofs.Common.{◌≡◌, ℕ, zero, suc, ◌+◌, ◌<◌, refl, ◌∙◌, ap, arith}
-use Rattle.std.specs.Prelude.{true}
-use Rattle.self_terms.specs.declared.nodes.Node.{Node}
+use Rattle.std.proofs.Common.{◌≡◌, ℕ, zero, suc, ◌+◌, ◌<◌, refl, ◌∙◌, ap, arith, append-nil}
+use Rattle.std.specs.Prelude.{List, [], ◌++◌}
 use Rattle.sparc_store.specs.Words.{word_at}
 use Rattle.sparc_machine.specs.State.{MachineState}
+use Rattle.source_model.specs.Formed.{IsWellFormed}
 use Rattle.source_model.specs.State.{State}
 use Rattle.source_model.specs.Step.{step}
-use Rattle.raw_steps.specs.Sends.{here_of}
+use Rattle.source_model.proofs.Forming.{steps_form}
 use Rattle.raw_steps.specs.Stands.{Sense}
-use Rattle.source_model.specs.Sends.{Here}
 use Rattle.plain_words.proofs.Basics.{goes_then}
 use Rattle.plain_runs.specs.Host.{Host}
-use Rattle.plain_runs.specs.Services.{with_left, data_answers}
 use Rattle.plain_runs.specs.Course.{with_machine, AllRun}
+use Rattle.plain_steps.specs.Paying.{IsPaid, HasMaps}
 use Rattle.plain_steps.specs.Steps.{DoesStep}
-use Rattle.plain_sends.specs.Sends.{IsData, OfConstant, OfField, OfParent, met_of}
-use Rattle.plain_stretches.specs.Gate.{is_built}
-use Rattle.plain_sends.proofs.Sending.{data_answers_sends}
-use Rattle.plain_sends.proofs.Settling.{controlled}
-use Rattle.plain_stretches.specs.Standing.{IsOn, left_of}
-use Rattle.plain_stretches.specs.Stretches.{IsBlockless, Stretch, StretchOn, PollsStretch, StepsStretch, AnswersStretch, StretchesRun}
-use Rattle.plain_stretches.proofs.Runs.{traps_stop}
-use Rattle.plain_stretches.proofs.Waiting.{steps_go_on}
-use Rattle.plain_stretches.proofs.Owned.{blockless_on}
+use Rattle.plain_steps.proofs.Paying.{steps_pay}
+use Rattle.plain_prims.specs.Performing.{DoesPrint}
+use Rattle.plain_stretches.specs.Gate.{gated_step, printed}
+use Rattle.plain_stretches.specs.Standing.{IsOn, IsSet, left_of}
+use Rattle.plain_stretches.specs.Stretches.{AreFit, Stretch, StretchOn, PollsStretch, StepsStretch, PrintsStretch, StretchesRun}
+use Rattle.plain_stretches.proofs.Gated.{none_gated, next_gated, printed_run}
+use Rattle.plain_stretches.proofs.Named.{maps_on}
 use Rattle.plain_stretches.proofs.Nodes.{Halted, Done, Steps, Asks, goal_done, poll_done}
-use Rattle.plain_stretches.specs.Gate.{gated_step}
-use Rattle.plain_stretches.proofs.Gated.{none_gated, next_gated, met_built, gate_is}
+use Rattle.plain_stretches.proofs.Runs.{traps_stop}
+use Rattle.plain_stretches.proofs.Waiting.{as_print, prints_go_on}
 
-halted : (z : Sense) (h : Host) (s : State) (left : ℕ) (on : IsOn z h s) → left_of h ≡ left → Halted z h s on → Stretch z h s left
-halted z h s left on e x = record {
-  steps = 0;
-  state = s;
-  runs = none_gated s;
-  counted = omega arith;
-  last = h.machine;
-  sense = z;
-  on = on;
-  still = omega (arith, e);
-  instructions = x.instructions;
-  few = omega (arith, x.few);
-  to = x.to;
-  goes = x.goes;
-  trap = x.trap;
-  stands = x.stands;
-  halts = x.halts;
-}
+-- a stretch that prints nothing
+abbrev pub Quiet : ℕ → Sense → Host → State → ℕ → Type 0
+Quiet start z h s left = (x : Stretch start z h s left) × (x.out ≡ [])
 
-stepped : (z : Sense) (h : Host) (s : State) (left : ℕ) → gated_step s ≡ step s → (d : DoesStep z h s) → Stretch d.sense (with_machine h d.to) (step s).state left → StretchOn z h s (suc left)
-stepped z h s left built d x = record {
+halted : (start : ℕ) (z : Sense) (h : Host) (s : State) (left : ℕ) (on : IsOn z h s) → IsPaid start h → left_of h ≡ left → Halted z h s on → Quiet start z h s left
+halted start z h s left on paid e x = (
+  record {
+    steps = 0;
+    state = s;
+    out = [];
+    runs = none_gated s;
+    counted = omega arith;
+    last = h.machine;
+    sense = z;
+    on = on;
+    paid = paid;
+    still = omega (arith, e);
+    instructions = x.instructions;
+    few = omega (arith, x.few);
+    to = x.to;
+    goes = x.goes;
+    trap = x.trap;
+    stands = x.stands;
+    halts = x.halts;
+  },
+  refl,
+)
+
+stepped : (start : ℕ) (z : Sense) (h : Host) (s : State) (left : ℕ) (out : List ℕ) → gated_step s ≡ step s → (d : DoesPrint h s out) → Quiet start d.sense (with_machine h d.to) (step s).state left → StretchOn start z h s (suc left) out
+stepped start z h s left out built d (x, quiet) = record {
   stretch = record {
     steps = suc x.steps;
     state = x.state;
-    runs = next_gated x.steps s built d.silent ∙ x.runs;
+    out = out;
+    runs = next_gated x.steps s out built d.printed ∙ printed_run x.steps (step s).state x.state out x.out x.runs ∙ ap (λ y. printed x.state (out ++ y)) quiet ∙ ap (printed x.state) (append-nil out);
     counted = omega (arith, x.counted, d.counted);
     last = x.last;
     sense = x.sense;
     on = x.on;
+    paid = x.paid;
     still = omega (arith, x.still);
     instructions = d.instructions + x.instructions;
     few = omega (arith, d.few, x.few);
@@ -66,48 +74,43 @@ stepped z h s left built d x = record {
     halts = x.halts;
   };
   some = omega arith;
+  prints = refl;
 }
 
--- each poll of this host, with so many steps left, has its stretch
-abbrev AllStretch : Host → ℕ → Type 0
-AllStretch h left = (z : Sense) (m : MachineState) (s : State) → IsOn z (with_machine h m) s → left_of (with_machine h m) ≡ left → Stretch z (with_machine h m) s left
+-- each poll of this host in a well-formed state, with its heap's room paid for and so many steps left, has its stretch
+abbrev AllStretch : ℕ → Host → ℕ → Type 0
+AllStretch start h left = (z : Sense) (m : MachineState) (s : State) → IsOn z (with_machine h m) s → IsWellFormed s → IsPaid start (with_machine h m) → left_of (with_machine h m) ≡ left → Quiet start z (with_machine h m) s left
 
-step_stretches : (z : Sense) (h : Host) (s : State) (left : ℕ) → AllRun h → h.current < 4 → h.steps + word_at h.machine.memory 0x30000000 ≡ s.steps + suc left → AllStretch h left → gated_step s ≡ step s → DoesStep z h s → StretchOn z h s (suc left)
-step_stretches z h s left runs current far more built d =
-    let g = steps_go_on z h s runs current d in
-    stepped z h s left built d (more d.sense d.to (step s).state g.on (g.left_is ∙ omega (arith, far)))
+step_stretches : (start : ℕ) (z : Sense) (h : Host) (s : State) (out : List ℕ) (left : ℕ) → AllRun h → h.current < 4 → IsWellFormed s → IsPaid start h → h.steps + word_at h.machine.memory 0x30000000 ≡ s.steps + suc left → AllStretch start h left → gated_step s ≡ step s
+    → DoesPrint h s out → StretchOn start z h s (suc left) out
+step_stretches start z h s out left runs current formed paid far more built d =
+    let g = prints_go_on h s out runs current d in
+    stepped start z h s left out built d (more d.sense d.to (step s).state g.on (steps_form s formed) (steps_pay start h d.to paid d.left d.paid) (g.left_is ∙ omega (arith, far)))
 
-node_stretches : (z : Sense) (h : Host) (s : State) (left : ℕ) (on : IsOn z h s) → left_of h ≡ suc left → AllStretch h left → Done z h s on → Stretch z h s (suc left)
-node_stretches z h s left on e more (Asks x) = halted z h s (suc left) on e x
-node_stretches z h s left on e more (Steps built d) =
+node_stretches : (start : ℕ) (z : Sense) (h : Host) (s : State) (left : ℕ) (on : IsOn z h s) → IsWellFormed s → IsPaid start h → left_of h ≡ suc left → AllStretch start h left → Done z h s on → Quiet start z h s (suc left)
+node_stretches start z h s left on formed paid e more (Asks x) = halted start z h s (suc left) on paid e x
+node_stretches start z h s left on formed paid e more (Steps built d) =
     let before : h.steps + h.machine.regs 2 ≡ s.steps = on.sound.stands.stands.steps in
-    (step_stretches z h s left on.sound.runs on.sound.current (omega (arith, before, e)) more built d).stretch
+    let x = step_stretches start z h s [] left on.sound.runs on.sound.current formed paid (omega (arith, before, e)) more built (as_print z h s d) in
+    (x.stretch, x.prints)
 
-stretches : (left : ℕ) (z : Sense) (h : Host) (s : State) → (on : IsOn z h s) → IsBlockless h → left_of h ≡ left → Stretch z h s left
-stretches zero z h s on plain e = halted z h s 0 on e (goal_done z h s on e)
-stretches (suc left) z h s on plain e =
-    node_stretches z h s left on e (λ y m t next less. stretches left y (with_machine h m) t next (blockless_on h m plain) less) (poll_done z h s on plain (omega (arith, e)))
+stretches : (left start : ℕ) (z : Sense) (h : Host) (s : State) → (on : IsOn z h s) → IsWellFormed s → AreFit h → HasMaps h → IsPaid start h → left_of h ≡ left → Quiet start z h s left
+stretches zero start z h s on formed fit maps paid e = halted start z h s 0 on paid e (goal_done z h s on e)
+stretches (suc left) start z h s on formed fit maps paid e =
+    node_stretches start z h s left on formed paid e (λ y m t next forms pays less. stretches left start y (with_machine h m) t next forms fit (maps_on h m maps) pays less)
+    (poll_done start z h s on formed fit maps paid (omega (arith, e)))
+
+-- From a well-formed state.
 
 pub polls_stretch : PollsStretch
-polls_stretch z h s left set plain = stretches left z h s set.on plain set.left_is
+polls_stretch start z h s left formed set fit maps paid = stretches left start z h s set.on formed fit maps paid set.left_is
+
+pub prints_stretch : PrintsStretch
+prints_stretch start z h s out left formed runs current fit maps paid built d far =
+    step_stretches start z h s out left runs current formed paid far (λ y m t next forms pays less. stretches left start y (with_machine h m) t next forms fit (maps_on h m maps) pays less) built d
 
 pub steps_stretch : StepsStretch
-steps_stretch z h s left runs current plain built d far = step_stretches z h s left runs current far (λ y m t next less. stretches left y (with_machine h m) t next (blockless_on h m plain) less) built d
-
--- a message that data answers is built
-data_built : {z : Sense} {word : ℕ} (h : Here) (node : Node) → IsData z (met_of node h.state h.young) word → is_built h node ≡ true
-data_built h node (OfConstant o v met is) = met_built h node o _ met refl
-data_built h node (OfField o v met is) = met_built h node o _ met refl
-data_built h node (OfParent o p met is) = met_built h node o _ met refl
-
-pub answers_stretch : AnswersStretch
-answers_stretch z h s b n node sel r q f can plain goal cost word few known =
-    let a = q.asks in
-    let h1 = data_answers goal cost word (with_machine h a.to) in
-    let d = data_answers_sends z h s b n node sel r q f can goal cost word few known in
-    let is : word_at h1.machine.memory 0x30000000 ≡ goal = ap (λ y. word_at (with_left y goal cost) 0x30000000) a.moved.memory_is ∙ (controlled h.machine.memory goal cost can.hosted.within).goal_is in
-    let before : h.steps + h.machine.regs 2 ≡ s.steps = f.stands.steps in
-    steps_stretch z h1 s goal can.runs can.current (record { fit = plain.fit; units = plain.units }) (gate_is s q.sender q.older node true q.is_at.here q.is_at.node_is (data_built (here_of s q.sender q.older) node known)) d (omega (arith, is, before, a.moved.counted))
+steps_stretch start z h s left formed runs current fit maps paid built d far = prints_stretch start z h s [] left formed runs current fit maps paid built (as_print z h s d) far
 
 pub stretches_run : StretchesRun
-stretches_run z h s left small x most far = traps_stop x.instructions x.trap most h.machine x.to x.goes x.stands (omega (arith, far, small, x.few, x.still))
+stretches_run start z h s left small x most far = traps_stop x.instructions x.trap most h.machine x.to x.goes x.stands (omega (arith, far, small, x.few, x.still))

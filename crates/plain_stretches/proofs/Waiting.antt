@@ -1,5 +1,6 @@
 -- A poll has led to service 2, and the service settles the host at that poll.
-use Rattle.std.proofs.Common.{◌≡◌, ℕ, ◌+◌, ◌-◌, ◌≤◌, refl, ◌∙◌, ap, sym, subst, arith}
+use Rattle.std.proofs.Common.{◌≡◌, ℕ, ◌+◌, ◌-◌, ◌<◌, ◌≤◌, refl, ◌∙◌, ap, sym, subst, arith}
+use Rattle.std.specs.Prelude.{List, []}
 use Rattle.sparc_store.specs.Words.{Words, word_at}
 use Rattle.self_terms.specs.declared.nodes.Node.{Node}
 use Rattle.sparc_machine.specs.State.{MachineState}
@@ -11,10 +12,12 @@ use Rattle.plain_words.proofs.Shown.{no_scratch}
 use Rattle.plain_runs.specs.Host.{Host, raw_of}
 use Rattle.plain_runs.specs.Sound.{RunsAt}
 use Rattle.plain_runs.specs.Services.{with_left, waits, data_answers}
-use Rattle.plain_runs.specs.Course.{with_machine}
+use Rattle.plain_runs.specs.Course.{with_machine, AllRun}
+use Rattle.plain_steps.specs.Steps.{DoesStep}
+use Rattle.plain_prims.specs.Performing.{DoesPrint}
 use Rattle.plain_sends.proofs.Settling.{Controlled, controlled, SettledTo}
 use Rattle.plain_sends.proofs.Resumming.{runs_as, hosted_as, threads_as}
-use Rattle.plain_stretches.specs.Standing.{IsSound, IsOn, left_of, StepsGoOn, AnswersGoOn, PollsWait}
+use Rattle.plain_stretches.specs.Standing.{IsSound, IsOn, IsSet, left_of, StepsGoOn, AnswersGoOn, PollsWait}
 use Rattle.plain_stretches.proofs.Settled.{high_cleared, rested}
 use Rattle.plain_stretches.proofs.Closing.{stands_as}
 
@@ -70,13 +73,38 @@ polls_wait z h s to on trap mv = record {
   there = λ goal cost few. (waits_again z h s to on mv goal cost few).at;
 }
 
-pub steps_go_on : StepsGoOn
-steps_go_on z h s runs current d =
+-- a step is one that prints nothing
+pub as_print : (z : Sense) (h : Host) (s : State) → DoesStep z h s → DoesPrint h s []
+as_print z h s d = record {
+  instructions = d.instructions;
+  few = d.few;
+  to = d.to;
+  goes = d.goes;
+  hosted = d.hosted;
+  goal = d.goal;
+  left = d.left;
+  paid = d.paid;
+  body = d.body;
+  number = d.number;
+  next = d.next;
+  runs = d.runs;
+  sense = d.sense;
+  stands = d.stands;
+  counted = d.counted;
+  printed = d.silent;
+}
+
+pub prints_go_on : (h : Host) (s : State) (out : List ℕ) → AllRun h → h.current < 4 → (d : DoesPrint h s out) → IsSet d.sense (with_machine h d.to) (step s).state (h.steps + word_at h.machine.memory 0x30000000 - (s.steps + 1))
+prints_go_on h s out runs current d =
     let after : h.steps + d.to.regs 2 ≡ (step s).state.steps = d.stands.stands.steps in
     record {
       on = record { sound = record { hosted = d.hosted; runs = runs; current = current; stands = d.stands }; body = d.body; number = d.number; node = d.next; at = d.runs };
       left_is = omega (arith, d.goal, after, d.counted);
     }
+
+pub steps_go_on : StepsGoOn
+unfolding as_print
+steps_go_on z h s runs current d = prints_go_on h s [] runs current (as_print z h s d)
 
 pub answers_go_on : AnswersGoOn
 answers_go_on z h s b n node sel r q f can goal cost word d =

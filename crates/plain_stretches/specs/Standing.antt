@@ -71,4 +71,3 @@ HostsSettle = (h : Host) → IsHosted h → AllRun h → (goal cost : ℕ) → g
 -- After service 9 the host stands for the state after the step that ended the activity.
 abbrev pub EndsSettle : Type 0
 EndsSettle = (z : Sense) (h : Host) (s : State) → IsSound z h s → (e : EndsActivity z h s) → (goal cost : ℕ) → goal ≤ 1000000000 → IsSound e.sense (ends goal cost (with_machine h e.to)) (step s).state
-

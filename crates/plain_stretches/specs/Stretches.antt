@@ -7,6 +7,7 @@ use Rattle.self_terms.specs.declared.nodes.Selector.{Selector}
 use Rattle.self_terms.specs.declared.values.BodyId.{BodyId}
 use Rattle.sparc_store.specs.Words.{word_at}
 use Rattle.sparc_machine.specs.State.{MachineState}
+use Rattle.source_model.specs.Formed.{IsWellFormed}
 use Rattle.source_model.specs.State.{Activation, Running, State, silent}
 use Rattle.source_model.specs.Soundness.{HasBody, IsFit}
 use Rattle.source_model.specs.Step.{step}
@@ -128,16 +129,16 @@ pub record StretchOn (start : ℕ) (z : Sense) (h : Host) (s : State) (left : �
   pub some : 0 < stretch.steps
   pub prints : stretch.out ≡ out
 
--- From each poll there is a stretch. Words print nothing.
+-- From each poll there is a stretch, where the state is well formed. Words print nothing.
 abbrev pub PollsStretch : Type 0
-PollsStretch = (start : ℕ) (z : Sense) (h : Host) (s : State) (left : ℕ) → IsSet z h s left → AreFit h → HasMaps h → IsPaid start h → (x : Stretch start z h s left) × (x.out ≡ [])
+PollsStretch = (start : ℕ) (z : Sense) (h : Host) (s : State) (left : ℕ) → IsWellFormed s → IsSet z h s left → AreFit h → HasMaps h → IsPaid start h → (x : Stretch start z h s left) × (x.out ≡ [])
 
 -- So is there from behind a service whose words do a step, where one is left of the goal; that of a primitive may have printed.
 abbrev pub StepsStretch : Type 0
-StepsStretch = (start : ℕ) (z : Sense) (h : Host) (s : State) (left : ℕ) → AllRun h → h.current < 4 → AreFit h → HasMaps h → IsPaid start h → gated_step s ≡ step s → DoesStep z h s → h.steps + word_at h.machine.memory 0x30000000 ≡ s.steps + suc left → StretchOn start z h s (suc left) []
+StepsStretch = (start : ℕ) (z : Sense) (h : Host) (s : State) (left : ℕ) → IsWellFormed s → AllRun h → h.current < 4 → AreFit h → HasMaps h → IsPaid start h → gated_step s ≡ step s → DoesStep z h s → h.steps + word_at h.machine.memory 0x30000000 ≡ s.steps + suc left → StretchOn start z h s (suc left) []
 
 abbrev pub PrintsStretch : Type 0
-PrintsStretch = (start : ℕ) (z : Sense) (h : Host) (s : State) (out : List ℕ) (left : ℕ) → AllRun h → h.current < 4 → AreFit h → HasMaps h → IsPaid start h → gated_step s ≡ step s → DoesPrint h s out → h.steps + word_at h.machine.memory 0x30000000 ≡ s.steps + suc left → StretchOn start z h s (suc left) out
+PrintsStretch = (start : ℕ) (z : Sense) (h : Host) (s : State) (out : List ℕ) (left : ℕ) → IsWellFormed s → AllRun h → h.current < 4 → AreFit h → HasMaps h → IsPaid start h → gated_step s ≡ step s → DoesPrint h s out → h.steps + word_at h.machine.memory 0x30000000 ≡ s.steps + suc left → StretchOn start z h s (suc left) out
 
 -- A run of 2 to the 40th instructions or more comes to its trap.
 abbrev pub StretchesRun : Type 0

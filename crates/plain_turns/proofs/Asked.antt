@@ -1,6 +1,6 @@
 -- At the trap of a message.
 use Rattle.std.proofs.Common.{◌≡◌, ℕ, zero, suc, ◌+◌, ◌-◌, ◌*◌, ◌<◌, ◌≤◌, refl, ◌∙◌, ap, sym, subst, arith, inl, inr, length-append}
-use Rattle.std.specs.Prelude.{◌⊎◌, Bool, true, false, if◌then◌else◌, List, [], ◌∷◌, ◌++◌, length, Some, Err}
+use Rattle.std.specs.Prelude.{◌⊎◌, Bool, true, false, List, [], ◌∷◌, ◌++◌, length, Some, Err}
 use Rattle.std.proofs.lemmas.Option.{same_Some, none-some}
 use Rattle.self_terms.specs.declared.errors.ErrorName.{ErrorName}
 use Rattle.self_terms.specs.declared.nodes.Node.{Node}
@@ -33,23 +33,24 @@ use Rattle.plain_runs.proofs.Pointed.{next_offset}
 use Rattle.plain_sends.specs.Sends.{selector_of, met_of}
 use Rattle.plain_lookups.specs.Telling.{MayLook, start_of, begins_at, found_by, FoundTells, IsFound}
 use Rattle.plain_lookups.proofs.Telling.{founds_tell}
-use Rattle.plain_stretches.specs.Gate.{may_enter, is_built, not_built, gated_step}
+use Rattle.plain_stretches.specs.Gate.{is_built, gated_step}
 use Rattle.plain_stretches.specs.Standing.{left_of}
-use Rattle.plain_stretches.specs.Stretches.{Halts, AtGoal, AtSend, AtEnd, AtLack, AtFailure, Sends}
+use Rattle.plain_stretches.specs.Stretches.{Halts, AtGoal, AtSend, AtPrimitive, AtLack, AtHome, AtFull, AtEnd, Sends}
 use Rattle.plain_stretches.proofs.Gated.{gate_is}
 use Rattle.plain_turns.specs.Asking.{count, body_here, node_here, place_here, found_for, found_here, behind_poll}
 use Rattle.plain_turns.specs.Resting.{IsAtTrap}
-use Rattle.plain_turns.specs.Turns.{MessagesAsk, HasRoomFor, FieldsAreRead}
-use Rattle.plain_turns.proofs.Places.{node_points, sent_points, sent_place}
-use Rattle.plain_turns.proofs.Running.{lacks_is}
+use Rattle.plain_turns.specs.Turns.{MessagesAsk, FieldsAreRead}
+use Rattle.plain_turns.proofs.Places.{Points, node_points, sent_points, sent_place}
 
 -- a node that sends has led there
-sends_at : (h : Host) (trap : ℕ) (from : State) (target : ℕ) → (x : IsAtTrap h trap from target) → trap ≡ 1 → Halts x.sense (with_machine h x.last) x.state x.on trap h.machine → Sends x.sense (with_machine h x.last) x.state x.on h.machine
-sends_at h trap from target x one (AtGoal e none w) = absurd (omega (arith, e, one))
-sends_at h trap from target x one (AtSend e q) = q
-sends_at h trap from target x one (AtEnd e q) = absurd (omega (arith, e, one))
-sends_at h trap from target x one (AtLack q) = elim (lacks_is x.on.node trap q.service) [ inl e ↦ absurd (omega (arith, e, one)) | inr e ↦ absurd (omega (arith, e, one)) ]
-sends_at h trap from target x one (AtFailure e q) = absurd (omega (arith, e, one))
+sends_at : (h : Host) (trap : ℕ) (from : State) (target : ℕ) (out : List ℕ) → (x : IsAtTrap h trap from target out) → trap ≡ 1 → Halts x.sense (with_machine h x.last) x.state x.on trap h.machine → Sends x.sense (with_machine h x.last) x.state x.on h.machine
+sends_at h trap from target out x one (AtGoal e none w) = absurd (omega (arith, e, one))
+sends_at h trap from target out x one (AtSend e q) = q
+sends_at h trap from target out x one (AtPrimitive e q) = absurd (omega (arith, e, one))
+sends_at h trap from target out x one (AtLack e q) = absurd (omega (arith, e, one))
+sends_at h trap from target out x one (AtHome e q) = absurd (omega (arith, e, one))
+sends_at h trap from target out x one (AtFull e q) = absurd (omega (arith, e, one))
+sends_at h trap from target out x one (AtEnd e q) = absurd (omega (arith, e, one))
 
 -- a message has at most five arguments
 few_arguments : (node : Node) (sel : Selector) → selector_of node ≡ Some sel → IsShort 64 node → sel.args ≤ 5
@@ -59,10 +60,9 @@ few_arguments (nodes.Resend y) sel e short = let same : y ≡ sel = same_Some y 
 few_arguments (nodes.Directed p y) sel e short = let same : y ≡ sel = same_Some y sel e in omega (arith, ap (λ (q : Selector). q.args) same, short)
 few_arguments _ sel e short = absurd (none-some sel e)
 
--- a message is built, but for what it would enter
-pub sent_built : (h : Here) (node : Node) (sel : Selector) → selector_of node ≡ Some sel → is_built h node ≡ may_enter h.state (met_of node h.state h.young)
+-- a message is built
+pub sent_built : (h : Here) (node : Node) (sel : Selector) → selector_of node ≡ Some sel → is_built h node ≡ true
 sent_built h (nodes.Prim name args implied handler) sel e = absurd (none-some sel e)
-sent_built h nodes.NonLocal sel e = absurd (none-some sel e)
 sent_built h node sel e = refl
 
 -- how many words a message takes
@@ -98,7 +98,7 @@ sent_long h b n (nodes.Directed p y) sel e =
 sent_long h b n _ sel e = absurd (none-some sel e)
 
 -- What is known at the trap of a message.
-module _ (h : Host) (from : State) (target : ℕ) (x : IsAtTrap h 1 from target) where
+module _ (h : Host) (from : State) (target : ℕ) (out : List ℕ) (x : IsAtTrap h 1 from target out) where
   abbrev pub at_poll : Host
   at_poll = with_machine h x.last
 
@@ -109,7 +109,7 @@ module _ (h : Host) (from : State) (target : ℕ) (x : IsAtTrap h 1 from target)
   n = x.on.number
 
   pub sent : Sends x.sense at_poll x.state x.on h.machine
-  sent = sends_at h 1 from target x refl x.halts
+  sent = sends_at h 1 from target out x refl x.halts
 
   -- nothing but scratch registers has changed since the poll
   pub moved : Moved x.last h.machine (h.machine.pc) x.last.memory (x.last.regs 2)
@@ -122,11 +122,14 @@ module _ (h : Host) (from : State) (target : ℕ) (x : IsAtTrap h 1 from target)
   pub few : sent.selector.args ≤ 5
   few = few_arguments x.on.node sent.selector sent.is ((x.on.sound.runs b).translates.short n x.on.node x.on.at.node_is)
 
+  points : Points h (h.machine.pc + 4) b n
+  points = sent_points x.sense at_poll x.state x.on h.machine sent
+
   pub node_is : node_here h ≡ Some x.on.node
-  node_is = node_points h b n (sent_points x.sense at_poll x.state x.on h.machine sent) ∙ x.on.at.node_is
+  node_is = node_points h b n points ∙ x.on.at.node_is
 
   pub body_is : body_here h ≡ b
-  body_is = (sent_points x.sense at_poll x.state x.on h.machine sent).body
+  body_is = points.body
 
   pub place_is : place_of x.state sent.sent.sender ≡ place_here h
   place_is = sent_place x.sense at_poll x.state x.on h.machine sent.sent.sender sent.sent.older sent.sent.is_at.here sent
@@ -146,10 +149,14 @@ module _ (h : Host) (from : State) (target : ℕ) (x : IsAtTrap h 1 from target)
       let here : h.machine.pc ≡ q.at = ap (λ (m : MachineState). m.pc) sent.there ∙ q.asks.moved.stands.here in
       omega (arith, here, long, whole_long, next, next2, same, q.behind.address, x.on.at.poll.address)
 
+  -- the next object's number is how many there are
+  pub objects_are : length x.state.things ≡ h.next
+  objects_are = sym x.on.sound.stands.stands.heap.numbered
+
   -- what was found, over the trap's own machine
-  module _ (room : ℕ) (le : length x.state.things ≤ room) where
+  module _ (room : ℕ) (le : h.next ≤ room) where
     pub looked : IsFound x.sense at_poll x.state b n x.on.node sent.selector x.on.at sent.sent room
-    looked = founds_tell x.sense at_poll x.state b n x.on.node sent.selector x.on.at sent.sent sent.is x.on.sound.stands sent.can few room le
+    looked = founds_tell x.sense at_poll x.state b n x.on.node sent.selector x.on.at sent.sent sent.is x.on.sound.stands sent.can few room (omega (arith, le, objects_are))
 
     pub found_is : found_here room h ≡ found_by room (with_machine at_poll sent.sent.asks.to) x.on.node
     found_is = ap (found_for room h) node_is ∙ ap (λ m. found_by room (with_machine at_poll m) x.on.node) sent.there
@@ -167,10 +174,10 @@ module _ (h : Host) (from : State) (target : ℕ) (x : IsAtTrap h 1 from target)
       let before : h.steps + x.last.regs 2 ≡ x.state.steps = x.on.sound.stands.stands.steps in
       omega (arith, before, moved.counted)
 
-  -- the state's step behind the gate
-  pub entering : (built : Bool) → may_enter x.state (met_of x.on.node x.state sent.sent.sender) ≡ built → gated_step x.state ≡ (if built then step x.state else silent (not_built x.state sent.sent.sender))
-  entering built e =
-      gate_is x.state sent.sent.sender sent.sent.older x.on.node built sent.sent.is_at.here sent.sent.is_at.node_is (sent_built (here_of x.state sent.sent.sender sent.sent.older) x.on.node sent.selector sent.is ∙ e)
+  -- the state's step is built
+  pub entering : gated_step x.state ≡ step x.state
+  entering =
+      gate_is x.state sent.sent.sender sent.sent.older x.on.node true sent.sent.is_at.here sent.sent.is_at.node_is (sent_built (here_of x.state sent.sent.sender sent.sent.older) x.on.node sent.selector sent.is)
 
   -- a step that is an error
   pub error_step : (e : ErrorName) → done (here_of x.state sent.sent.sender sent.sent.older) x.on.node ≡ Err e → step x.state ≡ silent (with_current (Ended_by e (place_here h)) x.state)
@@ -180,36 +187,32 @@ module _ (h : Host) (from : State) (target : ℕ) (x : IsAtTrap h 1 from target)
       ∙ ap (λ p. silent (with_current (Ended_by e p) x.state)) place_is
 
 pub messages_ask : MessagesAsk
-messages_ask h from target room x le =
-    let q = sent h from target x in
+messages_ask h from target out room x le =
+    let q = sent h from target out x in
     let node = x.on.node in
     let at = with_machine h x.last in
     let v = x.on.at.view in
-    let looked1 = looked h from target x room le in
+    let looked1 = looked h from target out x room le in
     let room_is = (x.on.sound.runs x.on.body).room x.on.number in
     let p = placed (x.last.regs 14) (frame_words (body_in h.bodies x.on.body)) 104 v.frame.place (omega arith) (omega (arith, room_is)) in
-    let same : h.machine.regs 14 ≡ x.last.regs 14 = (moved h from target x).kept 14 refl in
+    let same : h.machine.regs 14 ≡ x.last.regs 14 = (moved h from target out x).kept 14 refl in
     let here : add (x.last.regs 14) 104 ≡ h.machine.regs 14 + 104 = p.address ∙ ap (λ k. k + 104) (sym same) in
-    let low = q.sent.low in
-    let npc_is : h.machine.npc ≡ q.sent.at + 4 = ap (λ (m : MachineState). m.npc) q.there ∙ q.sent.asks.moved.stands.next in
-    let behind1 = behind_is h from target x in
+    let behind1 = behind_is h from target out x in
     record {
       node = node;
       selector = q.selector;
-      node_is = node_is h from target x;
+      node_is = node_is h from target out x;
       sends = q.is;
-      body = subst (HasBody h.bodies) (sym (body_is h from target x)) (x.on.at.poll.unit.given, x.on.at.poll.unit.known);
+      body = subst (HasBody h.bodies) (sym (body_is h from target out x)) (x.on.at.poll.unit.given, x.on.at.poll.unit.known);
       may = (let P : MachineState → Type 0 = λ m. MayLook h.maps m.memory room (start_of (with_machine at m) node) in subst P (sym q.there) looked1.may);
       holder = subst HasWord here p.has;
-      left = omega (arith, goal_left h from target x, counted_is h from target x, x.left_is);
+      left = omega (arith, goal_left h from target out x, counted_is h from target out x, x.left_is);
       back = omega (arith, behind1);
-      on = omega (arith, npc_is, low);
-      low = omega (arith, ap (λ (m : MachineState). m.pc) q.there, q.sent.asks.moved.stands.here, low);
     }
 
-field_word : (h : Host) (from : State) (target room : ℕ) → (x : IsAtTrap h 1 from target) → HasRoomFor h from target room x → (holder place : ℕ) → (found_here room h ≡ One holder (Field place)) ⊎ (found_here room h ≡ One holder (Assign place)) → HasWord (holder + 7 + 4 * place)
-field_word h from target room x le holder place (inl e) = ((tells_of h from target x room le _ e).field holder place refl).here
-field_word h from target room x le holder place (inr e) = ((tells_of h from target x room le _ e).assignment x.formed holder place refl).1
+field_word : (h : Host) (from : State) (target : ℕ) (out : List ℕ) (room : ℕ) → (x : IsAtTrap h 1 from target out) → h.next ≤ room → (holder place : ℕ) → (found_here room h ≡ One holder (Field place)) ⊎ (found_here room h ≡ One holder (Assign place)) → HasWord (holder + 7 + 4 * place)
+field_word h from target out room x le holder place (inl e) = ((tells_of h from target out x room le _ e).field holder place refl).here
+field_word h from target out room x le holder place (inr e) = ((tells_of h from target out x room le _ e).assignment x.formed holder place refl).1
 
 pub fields_are_read : FieldsAreRead
 fields_are_read = field_word

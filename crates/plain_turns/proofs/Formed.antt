@@ -1,6 +1,6 @@
 -- Steps behind the gate keep a state well formed.
 use Rattle.std.proofs.Common.{◌≡◌, ℕ, zero, suc, ◌<◌, subst, arith}
-use Rattle.std.specs.Prelude.{Bool, true, false, if◌then◌else◌, [], ◌∷◌, Option, Some, None, slice_get}
+use Rattle.std.specs.Prelude.{Bool, true, false, if◌then◌else◌, List, [], ◌∷◌, Option, Some, None, slice_get}
 use Rattle.self_terms.specs.declared.errors.ErrorName.{ErrorName}
 use Rattle.self_terms.specs.declared.nodes.Place.{Place}
 use Rattle.self_terms.specs.declared.values.Value.{Value}
@@ -15,7 +15,7 @@ use Rattle.source_model.proofs.Keeping.{set_each}
 use Rattle.source_model.proofs.Having.{each}
 use Rattle.source_model.proofs.Forming.{thing_holds, activity_holds, steps_form}
 use Rattle.raw_steps.specs.Sends.{here_of}
-use Rattle.plain_stretches.specs.Gate.{is_built, not_built, gated_at, gated_step, gated_onward, gated_run}
+use Rattle.plain_stretches.specs.Gate.{is_built, not_built, gated_at, gated_step, gated_onward, gated_run, printed}
 use Rattle.plain_stretches.proofs.Settled.{set_long}
 
 -- an activity that has failed is one
@@ -68,5 +68,5 @@ unfolding gated_run
 runs_form zero r formed = formed
 runs_form (suc n) r formed = runs_form n (gated_onward r) (gated_forms r.state formed)
 
-pub run_forms : (n : ℕ) (s t : State) → gated_run n (silent s) ≡ silent t → IsWellFormed s → IsWellFormed t
-run_forms n s t e formed = subst (λ (r : Reached). IsWellFormed r.state) e (runs_form n (silent s) formed)
+pub run_forms : (n : ℕ) (s t : State) (out : List ℕ) → gated_run n (silent s) ≡ printed t out → IsWellFormed s → IsWellFormed t
+run_forms n s t out e formed = subst (λ (r : Reached). IsWellFormed r.state) e (runs_form n (silent s) formed)

@@ -2,10 +2,15 @@ pub mod Formed
 pub mod Onward
 pub mod Back
 pub mod Running
+pub mod Pointed
 pub mod Places
+pub mod Rooms
 pub mod Ending
-pub mod Failing
+pub mod Counting
+pub mod Primitives
 pub mod Asked
 pub mod Telling
 pub mod Answering
 pub mod Putting
+pub mod Served
+pub mod Returning

@@ -1,9 +1,10 @@
 -- Where a machine stands that has asked for a service.
-use Rattle.std.proofs.Common.{◌≡◌, ℕ, suc, ◌+◌, ◌-◌, ◌*◌, ◌≤◌, refl, ◌∙◌, ap, sym, arith, length-append}
-use Rattle.std.specs.Prelude.{false, List, ◌∷◌, ◌++◌, length, Some, slice_get}
-use Rattle.std.proofs.lemmas.Option.{same_Some, none-some}
+use Rattle.std.proofs.Common.{◌≡◌, ℕ, ◌+◌, ◌*◌, ◌<◌, refl, ◌∙◌, ap, sym, arith, length-append}
+use Rattle.std.specs.Prelude.{List, ◌∷◌, ◌++◌, length, Some, slice_get}
 use Rattle.self_terms.specs.declared.nodes.Node.{Node}
 use Rattle.self_terms.specs.declared.nodes.Node.TheVariants as nodes
+use Rattle.self_terms.specs.declared.values.BodyId.{BodyId}
+use Rattle.self_terms.specs.Depths.{depth_from}
 use Rattle.sparc_machine.specs.State.{MachineState}
 use Rattle.source_model.specs.Soundness.{body_in}
 use Rattle.source_model.specs.State.{Activation, State, Running}
@@ -11,15 +12,18 @@ use Rattle.source_model.specs.Step.{place_at, place_of}
 use Rattle.frame_walk.specs.Places.{Descriptor}
 use Rattle.raw_steps.specs.Stands.{Sense}
 use Rattle.plain_words.specs.Code.{poll}
+use Rattle.plain_words.specs.declared.units.Point.{Point}
 use Rattle.plain_runs.specs.Host.{Host, point_at, descriptor_at}
-use Rattle.plain_runs.specs.Units.{node_offset, IsInPoll, IsBehindCall}
+use Rattle.plain_runs.specs.Units.{IsBehindCall}
 use Rattle.plain_runs.specs.Sound.{RunsAt}
 use Rattle.plain_runs.specs.Course.{with_machine, code_at}
-use Rattle.plain_runs.proofs.Pointed.{call_descriptor, in_poll_descriptor, next_offset}
+use Rattle.plain_runs.proofs.Located.{times_is}
+use Rattle.plain_runs.proofs.Pointed.{call_descriptor}
 use Rattle.plain_answers.proofs.Failing.{places_agree}
 use Rattle.plain_stretches.specs.Standing.{IsOn}
-use Rattle.plain_stretches.specs.Stretches.{asking, lacking, Sends, Lacks, Refuses}
-use Rattle.plain_turns.specs.Asking.{number_here, node_here, place_here, place_before}
+use Rattle.plain_stretches.specs.Stretches.{Sends, Performs, Fills}
+use Rattle.plain_turns.specs.Asking.{number_here, node_here, place_here}
+use Rattle.plain_turns.proofs.Pointed.{node_point}
 
 -- what a point says, by its descriptor
 pub record Points (h : Host) (pc b n : ℕ) : Type 0 where
@@ -40,35 +44,21 @@ node_points h b n p = ap (λ k. slice_get (body_in h.bodies k).nodes (number_her
 pub place_points : (h : Host) (b n : ℕ) → Points h (h.machine.pc + 4) b n → place_here h ≡ place_at (body_in h.bodies b) n
 place_points h b n p = ap (λ k. place_at (body_in h.bodies k) (number_here h)) p.body ∙ ap (λ k. place_at (body_in h.bodies b) k) p.number
 
-before_points : (h : Host) (b n : ℕ) → Points h (h.machine.pc - 8) b n → place_before h ≡ place_at (body_in h.bodies b) n
-before_points h b n p = ap (λ k. place_at (body_in h.bodies k) (point_at h (h.machine.pc - 8)).node) p.body ∙ ap (λ k. place_at (body_in h.bodies b) k) p.number
-
 -- the same of a machine at another address
 points_on : (h : Host) (m : MachineState) (pc other b n : ℕ) → pc ≡ other → Points h pc b n → Points (with_machine h m) other b n
 points_on h m pc other b n e p = record { body = ap (λ k. (point_at h k).body) (sym e) ∙ p.body; number = ap (λ k. (point_at h k).node) (sym e) ∙ p.number }
 
--- where a node has asked for a service that isn't built: behind the poll's last word but one, or before the last of its words
-pub data Stood (h : Host) (b n trap : ℕ) (to : MachineState) : Type 0 where
-  Behind : trap ≡ 3 → Points (with_machine h to) (to.pc + 4) b n → Stood h b n trap to
-  Before : trap ≡ 4 → Points (with_machine h to) (to.pc - 8) b n → Stood h b n trap to
-
-lack_stood : (h : Host) (b n trap : ℕ) (node : Node) (to : MachineState) → (r : RunsAt h b n node) → lacking node ≡ Some trap → 2 ≤ length (code_at h b n node)
-    → to.pc ≡ h.machine.pc + 24 + 4 * asking node (length (code_at h b n node)) → Stood h b n trap to
-lack_stood h b n trap (nodes.Prim name args implied handler) to r lacks some here =
-    let node = nodes.Prim name args implied handler in
+-- a word of a block literal
+literal_points : (h : Host) (pc b n j : ℕ) (body : BodyId) → (r : RunsAt h b n (nodes.BlockLit body)) → pc ≡ h.machine.pc + 4 * j → j < 6 + length (code_at h b n (nodes.BlockLit body)) → Points h pc b n
+literal_points h pc b n j body r at low =
+    let node = nodes.BlockLit body in
     let x = body_in h.bodies b in
-    let words = code_at h b n node in
-    let long : length (poll ++ words) ≡ 6 + length words = omega (arith, length-append poll words) in
-    let next : node_offset h.references x (suc n) ≡ node_offset h.references x n + length (poll ++ words) = next_offset h.references x n node r.node_is in
-    let next2 : node_offset h.references x (n + 1) ≡ node_offset h.references x (suc n) = ap (node_offset h.references x) (omega arith) in
-    let back : to.pc ≡ h.machine.pc + 24 + 4 * (length words - 2) = here in
-    let c : IsBehindCall h (to.pc + 4) b n node = record { at = r.poll.at; unit = r.poll.unit; node_is = r.node_is; call = refl; address = omega (arith, back, long, next, next2, r.poll.address, some) } in
-    Behind (sym (same_Some 3 trap lacks)) (points_on h to (to.pc + 4) (to.pc + 4) b n refl (call_points h (to.pc + 4) b n node c))
-lack_stood h b n trap nodes.NonLocal to r lacks some here =
-    let back : to.pc ≡ h.machine.pc + 24 + 4 * 1 = here in
-    let p : IsInPoll h (to.pc - 8) b n = record { at = r.poll.at; word = 5; unit = r.poll.unit; inside = r.poll.inside; within = omega arith; address = omega (arith, back, r.poll.address) } in
-    Before (sym (same_Some 4 trap lacks)) (points_on h to (to.pc - 8) (to.pc - 8) b n refl (points_by h (to.pc - 8) b n _ (in_poll_descriptor h (to.pc - 8) b n nodes.NonLocal p r.node_is) refl refl))
-lack_stood h b n trap _ to r lacks some here = absurd (none-some trap lacks)
+    let words = length (poll ++ code_at h b n node) in
+    let long : words ≡ 6 + length (code_at h b n node) = omega (arith, length-append poll (code_at h b n node)) in
+    let point : Point = record { body = b; node = n; pending = depth_from 0 x.nodes n } in
+    let g = node_point h b r.poll.at n j node point r.poll.unit r.node_is (omega (arith, low, long)) (times_is words j point (omega (arith, low, long))) in
+    let same : point_at h pc ≡ point = ap (point_at h) (omega (arith, at, r.poll.address)) ∙ g in
+    record { body = ap (λ (q : Point). q.body) same; number = ap (λ (q : Point). q.node) same }
 
 module _ (z : Sense) (h : Host) (s : State) (on : IsOn z h s) where
   -- the place of the node of the activation that runs
@@ -84,18 +74,19 @@ module _ (z : Sense) (h : Host) (s : State) (on : IsOn z h s) where
   pub sent_place : (to : MachineState) (a : Activation) (older : List Activation) → slice_get s.activities s.current ≡ Some (Running (a ∷ older)) → Sends z h s on to → place_of s a ≡ place_here (with_machine h to)
   sent_place to a older running q = source_place a older running ∙ sym (place_points (with_machine h to) on.body on.number (sent_points to q))
 
-  -- at that of a sum or a difference that fails
-  pub refused_points : (to : MachineState) → Refuses z h s on to → Points (with_machine h to) (to.pc + 4) on.body on.number
-  refused_points to q =
+  -- at that of a primitive
+  pub performed_points : (to : MachineState) → Performs z h s on to → Points (with_machine h to) (to.pc + 4) on.body on.number
+  performed_points to q =
       let p = q.performed in
       let here : p.at + 4 ≡ to.pc + 4 = ap (λ k. k + 4) (sym (ap (λ (m : MachineState). m.pc) q.there ∙ p.asks.moved.stands.here)) in
-      points_on h to (p.at + 4) (to.pc + 4) on.body on.number here (call_points h (p.at + 4) on.body on.number (nodes.Prim q.name q.args q.implied false) p.behind)
+      points_on h to (p.at + 4) (to.pc + 4) on.body on.number here (call_points h (p.at + 4) on.body on.number (nodes.Prim q.name q.args q.implied q.handler) p.behind)
 
-  pub lacks_stood : (trap : ℕ) (to : MachineState) → Lacks z h s on trap to → Stood h on.body on.number trap to
-  lacks_stood trap to q = lack_stood h on.body on.number trap on.node to on.at q.service q.some q.moved.stands.here
+  -- at that of a block that can't be paid
+  pub filled_points : (to : MachineState) → Fills z h s on to → Points (with_machine h to) (to.pc + 4) on.body on.number
+  filled_points to q =
+      let there : to.pc ≡ q.full.at = ap (λ (m : MachineState). m.pc) q.there ∙ q.full.full.moved.stands.here in
+      let here : h.machine.pc + 4 * 13 ≡ to.pc + 4 = omega (arith, there, q.full.place) in
+      points_on h to (h.machine.pc + 4 * 13) (to.pc + 4) on.body on.number here (literal_points h (h.machine.pc + 4 * 13) on.body on.number 13 q.body q.at refl (omega arith))
 
   pub behind_place : (to : MachineState) (a : Activation) (older : List Activation) → slice_get s.activities s.current ≡ Some (Running (a ∷ older)) → Points (with_machine h to) (to.pc + 4) on.body on.number → place_of s a ≡ place_here (with_machine h to)
   behind_place to a older running p = source_place a older running ∙ sym (place_points (with_machine h to) on.body on.number p)
-
-  pub before_place : (to : MachineState) (a : Activation) (older : List Activation) → slice_get s.activities s.current ≡ Some (Running (a ∷ older)) → Points (with_machine h to) (to.pc - 8) on.body on.number → place_of s a ≡ place_before (with_machine h to)
-  before_place to a older running p = source_place a older running ∙ sym (before_points (with_machine h to) on.body on.number p)

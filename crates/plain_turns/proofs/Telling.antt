@@ -1,6 +1,6 @@
 -- What is found tells what the message meets.
 use Rattle.std.proofs.Common.{◌≡◌, ℕ, ◌+◌, ◌*◌, ◌≤◌, refl, ◌∙◌, ap, sym, subst, arith, inl, inr}
-use Rattle.std.specs.Prelude.{◌⊎◌, ◌&&◌, not, is_some, Bool, true, false, List, length, ◌∷◌, Option, Some, None, slice_get}
+use Rattle.std.specs.Prelude.{◌⊎◌, is_some, true, false, List, length, ◌∷◌, Option, Some, None, slice_get}
 use Rattle.std.proofs.lemmas.Bool.{le-ltb, lt-ltb}
 use Rattle.std.proofs.lemmas.Option.{same_Some, none-some}
 use Rattle.self_terms.specs.declared.bodies.Body.{Body}
@@ -16,7 +16,7 @@ use Rattle.slot_lookup.specs.declared.sends.Found.TheVariants.{NotUnderstood, On
 use Rattle.sparc_store.specs.Words.{word_at}
 use Rattle.source_model.specs.declared.objects.Content.TheVariants.{Method}
 use Rattle.source_model.specs.Formed.{IsWellFormed}
-use Rattle.source_model.specs.Messages.{Met, Holds, body_of}
+use Rattle.source_model.specs.Messages.{Met, Missing, Holds, body_of}
 use Rattle.self_terms.specs.Depths.{taken}
 use Rattle.source_model.specs.Sends.{Message}
 use Rattle.source_model.specs.Soundness.{body_in, HasBody, Accepts, BlockAccepts, MetAccepts, NodeAccepts}
@@ -32,9 +32,7 @@ use Rattle.plain_sends.specs.Sends.{selector_of, met_of, IsData}
 use Rattle.plain_answers.specs.Found.{IsMethod}
 use Rattle.plain_answers.specs.Whole.{whole}
 use Rattle.plain_lookups.specs.Telling.{begins_at, IsEvaluated, FoundTells}
-use Rattle.plain_words.specs.Units.{owns_context}
-use Rattle.plain_stretches.specs.Gate.{is_blockless, may_enter}
-use Rattle.plain_stretches.specs.Stretches.{HasNoBlocks}
+use Rattle.plain_words.specs.Units.{of_block}
 
 -- data and its word
 pub data_told : {z : Sense} {h : Host} {s : State} {receiver : Option Value} {w name : ℕ} {met : Met} (r : Host) (f : Found) → FoundTells z h s r.machine.memory receiver w name f met → (word : ℕ) → data_word (whole r) f ≡ Some word → IsData z met word
@@ -48,10 +46,11 @@ data_told r (Ambiguous a b) tells word e = absurd (none-some word e)
 
 -- What a method that was found is.
 
--- a method's body is there, takes as many arguments as the message has, and stands in no other's; a block's stands in one
-pub data IsFoundMethod (z : Sense) (s : State) (bodies : List Body) (args holder : ℕ) (c : BodyId) (met : Met) : Type 0 where
-  OfObject : IsMethod z s met holder c → Accepts bodies c.0 args None → IsFoundMethod z s bodies args holder c met
-  OfBlock : (o outer : ℕ) → met ≡ Holds o (Method c) → HasBody bodies c.0 → (body_in bodies c.0).outer ≡ Some outer → IsFoundMethod z s bodies args holder c met
+-- an object's own method has a body that takes as many arguments as the message has, and stands in no other's; a block's is the block's body, which
+-- stands in one
+pub data IsFoundMethod (z : Sense) (s : State) (bodies : List Body) (args name holder : ℕ) (c : BodyId) (receiver : Option Value) (w : ℕ) (met : Met) : Type 0 where
+  OfObject : IsMethod z s met holder c → Accepts bodies c.0 args None → IsFoundMethod z s bodies args name holder c receiver w met
+  OfBlock : (outer : ℕ) → IsEvaluated z s receiver met name holder c w → Accepts bodies c.0 args (Some outer) → IsFoundMethod z s bodies args name holder c receiver w met
 
 -- the message of a node that sends has so many arguments, and is accepted; where its lookup begins at a value, that is its receiver
 record Accepted (home : ℕ → ℕ) (s : State) (node : Node) (a : Activation) (args : ℕ) (met : Met) : Type 0 where
@@ -95,7 +94,7 @@ accepts_at : (home : ℕ → ℕ) (s : State) (m : Message) (met new : Met) → 
 accepts_at home s m met new e ok = subst (MetAccepts home s m) e ok
 
 pub method_told : (z : Sense) (s : State) (bodies : List Body) → bodies ≡ s.bodies → (a : Activation) (older : List Activation) (node : Node) (sel : Selector) → slice_get s.activities s.current ≡ Some (Running (a ∷ older)) → node_at (body_of s a.body) a.next ≡ node
-    → selector_of node ≡ Some sel → IsWellFormed s → (w name holder : ℕ) (c : BodyId) → IsMethod z s (met_of node s a) holder c ⊎ IsEvaluated z s (begins_at node a) (met_of node s a) name holder c w → IsFoundMethod z s bodies sel.args holder c (met_of node s a)
+    → selector_of node ≡ Some sel → IsWellFormed s → (w name holder : ℕ) (c : BodyId) → IsMethod z s (met_of node s a) holder c ⊎ IsEvaluated z s (begins_at node a) (met_of node s a) name holder c w → IsFoundMethod z s bodies sel.args name holder c (begins_at node a) w (met_of node s a)
 method_told z s bodies same a older node sel here is given formed w name holder c (inl m) =
     let g = accepted_as s a older node sel here is given formed in
     let ok = (accepts_at formed.0 s g.message _ (Holds m.object (Method c)) m.met_is g.accepts).0 (lt-ltb m.object (length s.things) m.inside) in
@@ -106,40 +105,32 @@ method_told z s bodies same a older node sel here is given formed w name holder 
     let of_block = subst (BlockAccepts s.bodies formed.0 (length g.message.arguments)) (g.receives (values.Block q.block q.maker) q.receiver_is) beyond in
     let mine = subst (λ (k : BodyId). Accepts s.bodies k.0 (length g.message.arguments) (Some (formed.0 q.maker))) (sym q.evaluates.body_is) of_block in
     let here2 = subst (λ (bs : List Body). Accepts bs c.0 (length g.message.arguments) (Some (formed.0 q.maker))) (sym same) mine in
-    OfBlock (length s.things) (formed.0 q.maker) q.evaluates.met_is here2.given here2.outer
+    OfBlock (formed.0 q.maker) q (subst (λ (k : ℕ). Accepts bodies c.0 k (Some (formed.0 q.maker))) g.many here2)
 
--- Bodies without blocks.
+pub given_by : (z : Sense) (s : State) (bodies : List Body) (args name holder : ℕ) (c : BodyId) (receiver : Option Value) (w : ℕ) (met : Met) → IsFoundMethod z s bodies args name holder c receiver w met → HasBody bodies c.0
+given_by z s bodies args name holder c receiver w met (OfObject m ok) = ok.given
+given_by z s bodies args name holder c receiver w met (OfBlock outer q ok) = ok.given
 
-blockless_is : (o : Option ℕ) (owns : Bool) → (not (is_some o) && not owns) ≡ true → (o ≡ None) × (owns ≡ false)
-blockless_is None false e = (refl, refl)
-blockless_is None true e = absurd (cc)
-blockless_is (Some k) owns e = absurd (cc)
+pub arguments_by : (z : Sense) (s : State) (bodies : List Body) (args name holder : ℕ) (c : BodyId) (receiver : Option Value) (w : ℕ) (met : Met) → IsFoundMethod z s bodies args name holder c receiver w met → length (body_in bodies c.0).arguments ≡ args
+arguments_by z s bodies args name holder c receiver w met (OfObject m ok) = ok.arguments
+arguments_by z s bodies args name holder c receiver w met (OfBlock outer q ok) = ok.arguments
 
-is_blockless_by : (o : Option ℕ) (owns : Bool) → o ≡ None → owns ≡ false → (not (is_some o) && not owns) ≡ true
-is_blockless_by None false e f = refl
-is_blockless_by None true e f = absurd (cc)
-is_blockless_by (Some k) owns e f = absurd (cc)
+-- A block's own method is met behind all objects, and so isn't an object's.
+abbrev object_of : Met → ℕ
+object_of (Holds o content) = o
+object_of (Missing e) = 0
 
-pub blockless_body : (x : Body) → is_blockless x ≡ true → HasNoBlocks x
-blockless_body x e = let q = blockless_is x.outer (owns_context x) e in record { method = q.0; context = q.1 }
+never_both : (z : Sense) (s : State) (name holder : ℕ) (c : BodyId) (receiver : Option Value) (w : ℕ) (met : Met) → IsMethod z s met holder c → IsEvaluated z s receiver met name holder c w → ⊥
+never_both z s name holder c receiver w met m q =
+    let one : object_of met ≡ m.object = ap object_of m.met_is in
+    let two : object_of met ≡ length s.things = ap object_of q.evaluates.met_is in
+    absurd (omega (arith, one, two, m.inside))
 
-pub body_blockless : (x : Body) → HasNoBlocks x → is_blockless x ≡ true
-body_blockless x h = is_blockless_by x.outer (owns_context x) h.method h.context
+-- which kind of body it is
+pub method_body : (z : Sense) (s : State) (bodies : List Body) (args name holder : ℕ) (c : BodyId) (receiver : Option Value) (w : ℕ) (met : Met) → IsFoundMethod z s bodies args name holder c receiver w met → IsMethod z s met holder c → of_block (body_in bodies c.0) ≡ false
+method_body z s bodies args name holder c receiver w met (OfObject m ok) own = ap is_some ok.outer
+method_body z s bodies args name holder c receiver w met (OfBlock outer q ok) own = absurd (never_both z s name holder c receiver w met own q)
 
--- what a method that was found has to do with the gate
-pub gate_by : (z : Sense) (s : State) (bodies : List Body) (args holder : ℕ) (c : BodyId) (met : Met) → bodies ≡ s.bodies → IsFoundMethod z s bodies args holder c met → may_enter s met ≡ is_blockless (body_in bodies c.0)
-gate_by z s bodies args holder c met same (OfObject m ok) = ap (may_enter s) m.met_is ∙ ap (λ bs. is_blockless (body_in bs c.0)) (sym same)
-gate_by z s bodies args holder c met same (OfBlock o outer met_is given inside) = ap (may_enter s) met_is ∙ ap (λ bs. is_blockless (body_in bs c.0)) (sym same)
-
-pub given_by : (z : Sense) (s : State) (bodies : List Body) (args holder : ℕ) (c : BodyId) (met : Met) → IsFoundMethod z s bodies args holder c met → HasBody bodies c.0
-given_by z s bodies args holder c met (OfObject m ok) = ok.given
-given_by z s bodies args holder c met (OfBlock o outer met_is given inside) = given
-
--- one without blocks is a method's
-pub record IsOfObject (z : Sense) (s : State) (bodies : List Body) (args holder : ℕ) (c : BodyId) (met : Met) : Type 0 where
-  pub method : IsMethod z s met holder c
-  pub accepts : Accepts bodies c.0 args None
-
-pub object_by : (z : Sense) (s : State) (bodies : List Body) (args holder : ℕ) (c : BodyId) (met : Met) → HasNoBlocks (body_in bodies c.0) → IsFoundMethod z s bodies args holder c met → IsOfObject z s bodies args holder c met
-object_by z s bodies args holder c met plain (OfObject m ok) = record { method = m; accepts = ok }
-object_by z s bodies args holder c met plain (OfBlock o outer met_is given inside) = absurd (none-some outer (sym plain.method ∙ inside))
+pub block_body : (z : Sense) (s : State) (bodies : List Body) (args name holder : ℕ) (c : BodyId) (receiver : Option Value) (w : ℕ) (met : Met) → IsFoundMethod z s bodies args name holder c receiver w met → IsEvaluated z s receiver met name holder c w → of_block (body_in bodies c.0) ≡ true
+block_body z s bodies args name holder c receiver w met (OfObject m ok) own = absurd (never_both z s name holder c receiver w met m own)
+block_body z s bodies args name holder c receiver w met (OfBlock outer q ok) own = ap is_some ok.outer

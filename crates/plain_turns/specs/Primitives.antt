@@ -7,7 +7,7 @@ use Rattle.self_terms.specs.declared.nodes.Node.TheVariants as nodes
 use Rattle.self_terms.specs.declared.values.Value.{Value}
 use Rattle.self_terms.specs.Depths.{one_if}
 use Rattle.object_maps.specs.declared.layout.Heap.{Heap}
-use Rattle.sparc_store.specs.Words.{Words, word_at}
+use Rattle.sparc_store.specs.Words.{Words, word_at, IsWithin}
 use Rattle.source_model.specs.declared.objects.Core.{Core}
 use Rattle.source_model.specs.declared.primitives.Primitive.{Primitive}
 use Rattle.source_model.specs.Names.{text_named}
@@ -90,6 +90,7 @@ pub record WasApplied (h : Host) (p : Primitive) (args : ℕ) (core : CoreWords)
       → IsValue cells places v (h.machine.regs 8) → AreValues cells places vs (registers_from h.machine.regs 9 args)
       → IsAnswer h.maps h.machine.memory memory (heap_of h) heap cells places s.things made (h.machine.regs 8) answer (apply s p v vs)
   pub outside : (b : ℕ) → (b < 0x20000000) ⊎ (heap.top ≤ b) → word_at memory b ≡ word_at h.machine.memory b
+  pub within : IsWithin memory
 
 -- More words than are left of the plain cost: the store is full.
 abbrev pub FullsEnd : Type 0

@@ -57,7 +57,7 @@ pub record AtTrap (h : Host) (trap target : ℕ) : Type 0 where
   pub near : count h ≤ target + 1
   pub sums : h.cost + h.machine.regs 3 ≤ 4194304
   pub ends : trap ≢ 9 → CanUnwind h
-  pub on : h.machine.npc + 4 < 2 ^ 32
+  pub on : trap ≢ 9 → h.machine.npc + 4 < 2 ^ 32
   pub low : h.machine.pc + 8 < 2 ^ 32
 
 abbrev pub TrapsTell : Type 0

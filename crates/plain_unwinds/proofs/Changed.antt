@@ -1,8 +1,9 @@
 -- Memory where the windows were flushed, the marks of some contexts are cleared, and the control region says what is left.
-use Rattle.std.proofs.Common.{◌≡◌, ℕ, ◌<◌, ◌≤◌, ◌∙◌, ap, sym, subst, arith}
+use Rattle.std.proofs.Common.{◌≡◌, ℕ, ◌<◌, ◌≤◌, ◌∙◌, ap, sym, subst, arith, inl, inr}
 use Rattle.std.specs.Prelude.{All, List}
 use Rattle.self_terms.specs.declared.nodes.Node.{Node}
-use Rattle.sparc_store.specs.Words.{Words, word_at, IsWithin}
+use Rattle.sparc_store.specs.Words.{Words, word_at, with_word, HasWord, IsWithin}
+use Rattle.sparc_store.proofs.Placed.{put_there, put_stays_within}
 use Rattle.sparc_machine.specs.State.{MachineState}
 use Rattle.frame_walk.specs.Places.{Frame}
 use Rattle.raw_steps.specs.Ends.{Ends}
@@ -15,6 +16,9 @@ use Rattle.plain_unwinds.specs.Frames.{with_all_cleared}
 use Rattle.plain_unwinds.proofs.Apart.{IsApart}
 use Rattle.plain_unwinds.proofs.Marks.{contexts_of, AreMarked, InHeapAlone, all_alone, all_end}
 use Rattle.plain_unwinds.proofs.Written.{new, new_within, new_low, new_heap, new_own}
+
+has_left : HasWord 0x30000004
+has_left = (omega arith, inr (inr (inl (omega arith, omega arith))))
 
 module _ (h : Host) (b n : ℕ) (node : Node) (r : RunsAt h b n node) (hosted : IsHosted h) (run : AllRun h) where
   module _ (frames : List Frame) (marked : AreMarked frames) (goal cost : ℕ) where
@@ -44,6 +48,10 @@ module _ (h : Host) (b n : ℕ) (node : Node) (r : RunsAt h b n node) (hosted : 
 
     pub last_goal : word_at last 0x30000000 ≡ goal
     last_goal = set.goal_is
+
+    -- and of the plain cost
+    pub last_left : word_at last 0x30000004 ≡ cost
+    last_left = put_there (with_word unmarked_memory 0x30000000 goal) 0x30000004 cost (put_stays_within unmarked_memory 0x30000000 goal alone.within) has_left
 
     pub last_within : IsWithin last
     last_within = set.within

@@ -2,7 +2,7 @@
 use Rattle.std.proofs.Common.{◌≡◌, ℕ, zero, suc, ◌+◌, refl, ◌∙◌, ap, sym, arith}
 use Rattle.std.specs.Prelude.{Bool, List, [], ◌∷◌, length, Some, slice_set}
 use Rattle.self_terms.specs.Depths.{depth}
-use Rattle.sparc_store.specs.Words.{Words}
+use Rattle.sparc_store.specs.Words.{Words, word_at}
 use Rattle.sparc_store.specs.Windows.{Frame as Window, frame_before, but_first}
 use Rattle.source_model.specs.Soundness.{body_in}
 use Rattle.source_model.specs.State.{Activation, Running}
@@ -28,7 +28,7 @@ use Rattle.plain_steps.proofs.Words.{stands_after}
 use Rattle.plain_unwinds.specs.Failing.{ErrorsFail, MissingFails, OverflowFails}
 use Rattle.plain_unwinds.specs.Services.{fails_unmarked}
 use Rattle.plain_unwinds.proofs.Apart.{kept_apart, hosted_ended, threads_ended}
-use Rattle.plain_unwinds.proofs.Changed.{last, last_ends, apart_after}
+use Rattle.plain_unwinds.proofs.Changed.{last, last_ends, last_left, apart_after}
 use Rattle.plain_unwinds.proofs.Marks.{are_marked}
 use Rattle.plain_unwinds.proofs.Trapped.{reg, windows, zero_is, all_memory_is}
 
@@ -63,6 +63,8 @@ errors_fail z h s b n node f r can a older running e err to p mv goal cost few =
     } in
     record {
       hosted = hosted_ended h mF (Failed e place) after.steps after.cost kept.hosted;
+      left = ap (λ (y : Words). word_at y 0x30000004) memory ∙ last_left h b n node r can.hosted can.runs frames marked goal cost;
+      top = its_reg 6;
       sense = raw.to;
       stands = stands_after z h after s (record (raw_of h) { mem = heap_words lst; threads = slice_set (raw_of h).threads h.current (Failure e place) }) f is refl refl refl raw;
       uncounted = sym raw.stands.steps ∙ f.stands.steps;

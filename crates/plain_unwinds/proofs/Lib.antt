@@ -4,7 +4,9 @@ pub mod Walk
 pub mod Written
 pub mod Changed
 pub mod Failing
+pub mod Ended
 pub mod Taken
 pub mod Trapped
 pub mod Returning
 pub mod Walkable
+pub mod Anywhere

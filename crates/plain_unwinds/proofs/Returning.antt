@@ -45,7 +45,7 @@ use Rattle.plain_unwinds.specs.Frames.{frame_behind, ending_at}
 use Rattle.plain_unwinds.specs.Returning.{AsksHome, HomeReturnsAsk, HasAnswered, Unwinds, GoesOn, Answers, HomeReturns, Leaves, HomesLeave}
 use Rattle.plain_unwinds.specs.Services.{unmarked, ended_older, home_at, taken_up_with, returns_to, answers_from_home, unwinds}
 use Rattle.plain_unwinds.proofs.Apart.{IsApart, kept_apart, hosted_ended, threads_ended}
-use Rattle.plain_unwinds.proofs.Changed.{last, last_high, last_ends, last_goal, apart_after}
+use Rattle.plain_unwinds.proofs.Changed.{last, last_high, last_ends, last_goal, last_left, apart_after}
 use Rattle.plain_unwinds.proofs.Marks.{AreMarked, are_marked, first_marked}
 use Rattle.plain_unwinds.proofs.Taken.{Resumes, c, place, back, window, resumes}
 use Rattle.plain_unwinds.proofs.Trapped.{lain, w, flat, reg, windows, counted as all_counted, first, zero_is, frames, memory_is}
@@ -279,6 +279,8 @@ module _ (z : Sense) (h : Host) (s : State) (b n : ℕ) (f : StandsFor z h s) (r
       goes = its_resumes.goes;
       hosted = hosted_as after.steps after.cost (with_machine h now) its_resumes.hosted;
       goal = its_resumes.goal;
+      left = its_resumes.left;
+      paid = omega (arith, its_resumes.top, its_resumes.cost);
       body = its_resumes.body;
       number = its_resumes.number;
       next = its_resumes.next;
@@ -344,14 +346,20 @@ module _ (z : Sense) (h : Host) (s : State) (b n : ℕ) (f : StandsFor z h s) (r
   goal_is : word_at set.machine.memory 0x30000000 ≡ goal
   goal_is = ap (λ (y : Words). word_at y 0x30000000) set_memory ∙ last_goal h b n nodes.NonLocal r can.hosted can.runs (take (suc k) its_frames) marked goal cost
 
+  left_is : word_at set.machine.memory 0x30000004 ≡ cost
+  left_is = ap (λ (y : Words). word_at y 0x30000004) set_memory ∙ last_left h b n nodes.NonLocal r can.hosted can.runs (take (suc k) its_frames) marked goal cost
+
+  sum : set.cost ≡ h.cost + m.regs 3
+  sum = omega (arith, costs)
+
   abbrev left_by : Bool → Host
   left_by c = if c then returns_to (saved_at its_w.machine.memory (home_at its_w) 14) (saved_at its_w.machine.memory (home_at its_w) 15 + 8) (its_w.machine.regs 4 - ended) set else answers_from_home set
 
-  leaves_by : (c : Bool) → Leaves goal h (left_by c) s
-  leaves_by true = record { goal_is = goal_is; steps_are = omega (arith, stepped, f.stands.steps); current = refl; runs = can.runs }
-  leaves_by false = record { goal_is = goal_is; steps_are = omega (arith, stepped, f.stands.steps); current = refl; runs = can.runs }
+  leaves_by : (c : Bool) → Leaves goal cost h (left_by c) s
+  leaves_by true = record { goal_is = goal_is; left_is = left_is; top = top; settled = refl; sum = sum; steps_are = omega (arith, stepped, f.stands.steps); current = refl; runs = can.runs }
+  leaves_by false = record { goal_is = goal_is; left_is = left_is; top = top; settled = refl; sum = sum; steps_are = omega (arith, stepped, f.stands.steps); current = refl; runs = can.runs }
 
-  pub leaves : Leaves goal h (unwinds goal cost (with_machine h to)) s
+  pub leaves : Leaves goal cost h (unwinds goal cost (with_machine h to)) s
   leaves = leaves_by (nat_lt ended (its_w.machine.regs 4))
 
 pub home_returns : HomeReturns

@@ -50,6 +50,7 @@ pub record Resumes (h : Host) (m : MachineState) (k older : ℕ) : Type 0 where
   pub next : Node
   pub hosted : IsHosted (with_machine h to)
   pub goal : word_at to.memory 0x30000000 ≡ word_at m.memory 0x30000000
+  pub left : word_at to.memory 0x30000004 ≡ word_at m.memory 0x30000004
   pub runs : RunsAt (with_machine h to) body number next
   pub threads : threads_from (with_machine h to) 0 h.statuses ≡ slice_set (threads_from h 0 h.statuses) h.current (answered_to (drop k (callers_of h older)) (m.regs 8))
   pub heap : heap_words to.memory ≡ heap_words m.memory
@@ -194,6 +195,7 @@ module _ (h : Host) (b n : ℕ) (node : Node) (r : RunsAt h b n node) (hosted : 
           next = p.next;
           hosted = p.view.hosted;
           goal = p.view.goal;
+          left = p.view.left;
           runs = p.view.runs;
           threads =
               p.view.threads

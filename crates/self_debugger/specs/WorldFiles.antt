@@ -1,6 +1,5 @@
 -- What the bytes of a world file mean: a world, or the line that refuses them.
 use Rattle.std.specs.Prelude.{◌≡◌, ℕ, ◌<◌, ◌≤◌, Result, Ok, Err, List, length, codes}
-use Rattle.self_terms.specs.Names.{with_text}
 use Rattle.self_tokens.specs.Tokens.{tokens}
 use Rattle.self_grammar.specs.declared.signs.ReadRefusal.{ReadRefusal}
 use Rattle.self_grammar.specs.Grammar as grammar
@@ -11,9 +10,9 @@ use Rattle.self_signs.specs.Signs.{signs, names_after}
 use Rattle.self_reader.specs.Texts.{known}
 use Rattle.world_build.specs.declared.refusals.BuildRefusal.{BuildRefusal}
 use Rattle.source_model.specs.State.{State}
+use Rattle.world_blocks.specs.Sessions.{session_names}
 use Rattle.world_build.specs.Worlds.{World, built}
 use Rattle.world_state.specs.Begun.{begun}
-use Rattle.world_test.specs.Further.{failure_text}
 use Rattle.self_debugger.specs.WorldLines.{read_line, build_line}
 
 -- The bytes spell this text, within the limits and with nothing wrong.
@@ -31,6 +30,6 @@ pub data WorldRead (bytes : List ℕ) : Result World (List ℕ) → Type 0 where
   unbuilt : (t : grammar.World) (b : BuildRefusal) → length bytes ≤ 1048576 → Spells bytes t → built_of bytes t ≡ Err b → WorldRead bytes (Err (build_line b))
   read : (t : grammar.World) (w : World) → length bytes ≤ 1048576 → Spells bytes t → built_of bytes t ≡ Ok w → WorldRead bytes (Ok w)
 
--- the state with which a session over a world begins: behind its names stands the one that a failed primitive sends to its handler
+-- the state with which a session over a world begins: behind its names stand those of a session
 abbrev pub begins : World → State
-begins w = begun w (with_text w.names failure_text) 0
+begins w = begun w (session_names w) 0

@@ -16,7 +16,6 @@ use plain_session::Session;
 use self_reader::{ReadStop, WorldTree, read_world};
 use std::alloc::{AllocError, Global};
 use world_image::{WorldImage, build};
-use world_test::session_names;
 
 /// The world of the bytes of a file, with its maps and words, or the line that refuses them.
 pub fn world_of(alloc: Global, bytes: &[u8]) -> Result<Result<WorldImage, Vec<u8>>, AllocError>
@@ -62,6 +61,5 @@ pub fn session_over(alloc: Global, image: WorldImage) -> Result<Session, AllocEr
     ensures instructions { IfOk result (λ x. x.instructions ≡ 0) }
     ensures services { IfOk result (λ x. x.services ≡ 0) }
 {
-    let names = session_names(alloc, image.world().names())?;
-    Session::open(alloc, image, names)
+    Session::open(alloc, image)
 }

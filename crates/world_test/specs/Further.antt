@@ -3,10 +3,6 @@ use Rattle.std.specs.Prelude.{ℕ, ◌&&◌, Bool, false, Option, None, Some, Li
 use Rattle.self_terms.specs.Names.{text_of}
 use Rattle.source_model.specs.Names.{is_text}
 
--- the message that a failed primitive sends to its handler
-abbrev pub failure_text : List ℕ
-failure_text = codes "value:With:"
-
 abbrev pub is_given : List ℕ → Option (List ℕ) → Bool
 is_given text None = false
 is_given text (Some x) = is_text x text

@@ -1,7 +1,8 @@
 // The names of a session.
-ghost use Rattle.std.specs.Prelude.{◌≡◌, ◌+◌, ◌≤◌, length, true, IfOk};
+ghost use Rattle.std.specs.Prelude.{◌≡◌, ◌+◌, ◌<◌, ◌≤◌, length, true, IfOk, OnOk};
 ghost use Rattle.self_terms.specs.Names.{text_of, with_text};
-ghost use Rattle.world_test.specs.Further.{failure_text, is_given, starts_fixed};
+ghost use Rattle.world_blocks.specs.Sessions.{session_texts, with_texts};
+ghost use Rattle.world_test.specs.Further.{is_given, starts_fixed};
 
 use crate::names::text_of;
 use self_terms::{Name, Names};
@@ -38,13 +39,40 @@ fn copied(alloc: Global, names: &Names) -> Result<Names, AllocError>
     Ok(copy)
 }
 
-/// The names of a world once more, and `value:With:`, the message that a failed primitive sends, which the text of a world may not have.
+// One name more.
+fn add(names: &mut Names, text: &[u8]) -> Result<(), AllocError>
+    requires { length names.old < 500000000 }
+    ensures grows { OnOk result (names.new ≡ with_text names.old text.now) }
+    ensures room { length names.new ≤ length names.old + 1 }
+{
+    names.name(text)?;
+    Ok(())
+}
+
+// Those that a session has beside the names of a world.
+fn add_texts(names: &mut Names) -> Result<(), AllocError>
+    requires { length names.old ≤ 460000000 }
+    ensures grows { OnOk result (names.new ≡ with_texts names.old session_texts) }
+    ensures few { length names.new ≤ 500000000 }
+{
+    add(names, b"lobby")?;
+    add(names, b"value")?;
+    add(names, b"value:")?;
+    add(names, b"value:With:")?;
+    add(names, b"value:With:With:")?;
+    add(names, b"value:With:With:With:")?;
+    add(names, b"value:With:With:With:With:")?;
+    Ok(())
+}
+
+/// The names of a world once more, and those that a session has behind them, which the text of a world may not have: `lobby`, and the messages that
+/// evaluate blocks, of which a failed primitive sends one.
 pub fn session_names(alloc: Global, names: &Names) -> Result<Names, AllocError>
     requires { length names.now ≤ 450000000 }
-    ensures names { IfOk result (λ all. starts_fixed names.now ≡ true → all ≡ with_text names.now failure_text) }
+    ensures names { IfOk result (λ all. starts_fixed names.now ≡ true → all ≡ with_texts names.now session_texts) }
     ensures few { IfOk result (λ all. length all ≤ 500000000) }
 {
     let mut all = copied(alloc, names)?;
-    all.name(b"value:With:")?;
+    add_texts(&mut all)?;
     Ok(all)
 }

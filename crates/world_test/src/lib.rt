@@ -4,7 +4,7 @@
 // and what it names, what nodes, locals and slots speak of is there, and the core objects are.
 // Promise: `can_begin_with` says just that with any names, `can_begin` with those of the world. It takes no memory, and looks at each
 // node, local and slot once. Where it says so, the session is well formed at its beginning (`can_begin_tells`). The names are to have
-// `value:With:`, which `session_names` puts behind those of a world.
+// `value:With:`, which `session_names` puts behind those of a world, with the other names of a session.
 #![tactic(auto)]
 
 mod bodies;

@@ -24,7 +24,7 @@ fail-requires-clause-at g c =
     let applied = c.apply_asked-applied.result in
     let told = c.apply_asked-applied.ensures in
     let core = c.core_words-core.result in
-    let was = was_so h c.args.prim c.args.args core to.machine.memory applied.heap applied.answer (answers.Fails c.in-Fails.error) c.in-Fails.is (record { answers = told.answer; outside = told.outside }) in
+    let was = was_so h c.args.prim c.args.args core to.machine.memory applied.heap applied.answer (answers.Fails c.in-Fails.error) c.in-Fails.is (record { answers = told.answer; outside = told.outside; within = c.is_whole.ensures.machine.memory_within }) in
     subst (λ (y : Host). StandsAt l y 3 c.args.target) (sym (failed_same l h c.args.target c.requires.at c.args.prim c.args.args c.requires.known core c.core_words-core.ensures to applied.heap told.same c.in-Fails.error was)) c.requires.at
 
 pub write_line-requires : goal.write_line-requires
@@ -35,7 +35,7 @@ write_line-requires g c =
     let applied = c.apply_asked-applied.result in
     let told = c.apply_asked-applied.ensures in
     let core = c.core_words-core.result in
-    let was = was_so h c.args.prim c.args.args core to.machine.memory applied.heap applied.answer (answers.Done c.in-Done.word) c.in-Done.is (record { answers = told.answer; outside = told.outside }) in
+    let was = was_so h c.args.prim c.args.args core to.machine.memory applied.heap applied.answer (answers.Done c.in-Done.word) c.in-Done.is (record { answers = told.answer; outside = told.outside; within = c.is_whole.ensures.machine.memory_within }) in
     operand_after l h c.args.target c.requires.at c.args.prim c.args.args c.requires.known core c.core_words-core.ensures to applied.heap told.same c.in-Done.word c.args.words was c.requires.costs c.requires.fits
 
 pub returns-in_err-write_line-in-Done-clause-broken : goal.returns-in_err-write_line-in-Done-clause-broken
@@ -46,7 +46,7 @@ returns-in_err-write_line-in-Done-clause-broken g c =
     let applied = c.apply_asked-applied.result in
     let told = c.apply_asked-applied.ensures in
     let core = c.core_words-core.result in
-    let was = was_so h c.args.prim c.args.args core to.machine.memory applied.heap applied.answer (answers.Done c.in-Done.word) c.in-Done.is (record { answers = told.answer; outside = told.outside }) in
+    let was = was_so h c.args.prim c.args.args core to.machine.memory applied.heap applied.answer (answers.Done c.in-Done.word) c.in-Done.is (record { answers = told.answer; outside = told.outside; within = c.is_whole.ensures.machine.memory_within }) in
     let front = c.in_err-write_line-in-Done.ensures.front in
     answer_breaks_within l h c.args.target c.requires.at c.args.prim c.args.args c.requires.known core c.core_words-core.ensures to applied.heap told.same c.in-Done.word c.args.words was c.requires.costs c.requires.fits (g.K.Sink.taken c.args.out.now) (g.K.Sink.taken c.write_line.new.out) front.0 (says l h c.args.target c.requires.at c.args.prim c.args.args c.requires.known core c.core_words-core.ensures to applied.heap told.same c.in-Done.word c.args.words was c.requires.costs c.requires.fits front.0 front.1.0) front.1.1
 
@@ -58,7 +58,7 @@ make_room-requires g c =
     let applied = c.apply_asked-applied.result in
     let told = c.apply_asked-applied.ensures in
     let core = c.core_words-core.result in
-    let was = was_so h c.args.prim c.args.args core to.machine.memory applied.heap applied.answer (answers.Done c.in-Done.word) c.in-Done.is (record { answers = told.answer; outside = told.outside }) in
+    let was = was_so h c.args.prim c.args.args core to.machine.memory applied.heap applied.answer (answers.Done c.in-Done.word) c.in-Done.is (record { answers = told.answer; outside = told.outside; within = c.is_whole.ensures.machine.memory_within }) in
     let said = c.in_ok-write_line-in-Done.ensures.said in
     let next = ap (λ (y : Host). y.next) c.perform.ensures in
     let more = objects_after l h c.args.target c.requires.at c.args.prim c.args.args c.requires.known core c.core_words-core.ensures to applied.heap told.same c.in-Done.word c.args.words was c.requires.costs c.requires.fits said.0 (says l h c.args.target c.requires.at c.args.prim c.args.args c.requires.known core c.core_words-core.ensures to applied.heap told.same c.in-Done.word c.args.words was c.requires.costs c.requires.fits said.0 said.1.0) in
@@ -73,7 +73,7 @@ returns-in_err-make_room-in-Done-clause-broken g c =
     let applied = c.apply_asked-applied.result in
     let told = c.apply_asked-applied.ensures in
     let core = c.core_words-core.result in
-    let was = was_so h c.args.prim c.args.args core to.machine.memory applied.heap applied.answer (answers.Done c.in-Done.word) c.in-Done.is (record { answers = told.answer; outside = told.outside }) in
+    let was = was_so h c.args.prim c.args.args core to.machine.memory applied.heap applied.answer (answers.Done c.in-Done.word) c.in-Done.is (record { answers = told.answer; outside = told.outside; within = c.is_whole.ensures.machine.memory_within }) in
     let said = c.in_ok-write_line-in-Done.ensures.said in
     answer_breaks l h c.args.target c.requires.at c.args.prim c.args.args c.requires.known core c.core_words-core.ensures to applied.heap told.same c.in-Done.word c.args.words was c.requires.costs c.requires.fits (g.K.Sink.taken c.args.out.now) (g.K.Sink.taken c.write_line.new.out) said.0 (says l h c.args.target c.requires.at c.args.prim c.args.args c.requires.known core c.core_words-core.ensures to applied.heap told.same c.in-Done.word c.args.words was c.requires.costs c.requires.fits said.0 said.1.0) said.1.1
 
@@ -85,7 +85,7 @@ returns-in-Fails-clause-served g c =
     let applied = c.apply_asked-applied.result in
     let told = c.apply_asked-applied.ensures in
     let core = c.core_words-core.result in
-    let was = was_so h c.args.prim c.args.args core to.machine.memory applied.heap applied.answer (answers.Fails c.in-Fails.error) c.in-Fails.is (record { answers = told.answer; outside = told.outside }) in
+    let was = was_so h c.args.prim c.args.args core to.machine.memory applied.heap applied.answer (answers.Fails c.in-Fails.error) c.in-Fails.is (record { answers = told.answer; outside = told.outside; within = c.is_whole.ensures.machine.memory_within }) in
     let same = failed_same l h c.args.target c.requires.at c.args.prim c.args.args c.requires.known core c.core_words-core.ensures to applied.heap told.same c.in-Fails.error was in
     (quiet_as l 3 h (fails_unmarked 0 (cost_left h) c.in-Fails.error (place_here h) h) (host c.fail.new.hosting) c.args.target turns.Ended c.fail.result (c.fail.ensures.failed ∙ ap (λ (y : Host). fails_unmarked 0 (cost_left y) c.in-Fails.error (place_here y) y) same) c.fail.ensures.ended (failure_served l h c.args.target c.requires.at c.args.prim c.args.args c.requires.known core c.core_words-core.ensures to applied.heap told.same c.in-Fails.error was)).served (g.K.Sink.taken c.args.out.now)
 
@@ -97,7 +97,7 @@ returns-in_ok-make_room-in-Done-clause-served g c =
     let applied = c.apply_asked-applied.result in
     let told = c.apply_asked-applied.ensures in
     let core = c.core_words-core.result in
-    let was = was_so h c.args.prim c.args.args core to.machine.memory applied.heap applied.answer (answers.Done c.in-Done.word) c.in-Done.is (record { answers = told.answer; outside = told.outside }) in
+    let was = was_so h c.args.prim c.args.args core to.machine.memory applied.heap applied.answer (answers.Done c.in-Done.word) c.in-Done.is (record { answers = told.answer; outside = told.outside; within = c.is_whole.ensures.machine.memory_within }) in
     let said = c.in_ok-write_line-in-Done.ensures.said in
     let after = host c.perform.new.self in
     answer_served l h c.args.target c.requires.at c.args.prim c.args.args c.requires.known core c.core_words-core.ensures to applied.heap told.same c.in-Done.word c.args.words was c.requires.costs c.requires.fits after (g.K.Sink.taken c.args.out.now) (g.K.Sink.taken c.write_line.new.out) said.0 (performed_is l h c.args.target c.requires.at c.args.prim c.args.args c.requires.known core c.core_words-core.ensures to applied.heap told.same c.in-Done.word c.args.words was c.requires.costs c.requires.fits after (c.left-goal.result - 1) (c.cost_left-cost.result - c.args.words) c.perform.ensures (ap (λ (k : ℕ). k - 1) c.left-goal.ensures) (ap (λ (k : ℕ). k - c.args.words) c.cost_left-cost.ensures)) (says l h c.args.target c.requires.at c.args.prim c.args.args c.requires.known core c.core_words-core.ensures to applied.heap told.same c.in-Done.word c.args.words was c.requires.costs c.requires.fits said.0 said.1.0) said.1.1

@@ -1,6 +1,6 @@
 use Rattle.plain_turns.proofs.Asked.{messages_ask, fields_are_read}
 use Rattle.plain_turns.proofs.Putting.{methods_there, units_fit, units_turn}
-use Rattle.plain_turns.proofs.Answering.{data_turns, assignments_turn, misses_end, calls_turn, overflows_end, unbuilt_end}
+use Rattle.plain_turns.proofs.Answering.{data_turns, assignments_turn, misses_end}
 use Rattle.plain_turns.proofs.laws.messages_turn.Goals as goal
 
 pub returns-clause-asked : goal.returns-clause-asked
@@ -17,15 +17,6 @@ returns-clause-assignment c = assignments_turn
 
 pub returns-clause-missing : goal.returns-clause-missing
 returns-clause-missing c = misses_end
-
-pub returns-clause-method : goal.returns-clause-method
-returns-clause-method c = calls_turn
-
-pub returns-clause-overflow : goal.returns-clause-overflow
-returns-clause-overflow c = overflows_end
-
-pub returns-clause-unbuilt : goal.returns-clause-unbuilt
-returns-clause-unbuilt c = unbuilt_end
 
 pub returns-clause-there : goal.returns-clause-there
 returns-clause-there c = methods_there
