@@ -1,5 +1,5 @@
 -- An activity begins while a session rests.
-use Rattle.std.proofs.Common.{◌≡◌, ◌≢◌, ℕ, ◌+◌, ◌-◌, ◌*◌, ◌<◌, ◌≤◌, List, refl, ◌∙◌, ap, sym, subst, arith}
+use Rattle.std.proofs.Common.{◌≡◌, ◌≢◌, ℕ, ◌+◌, ◌-◌, ◌<◌, ◌≤◌, List, refl, ◌∙◌, ap, sym, subst, arith}
 use Rattle.std.specs.Prelude.{nat_lt, ◌&&◌, Bool, true, false, if◌then◌else◌, [], length, Option, Some, None, slice_get}
 use Rattle.std.proofs.lemmas.Bool.{cond-true, and_parts, ltb-true, ltb-false}
 use Rattle.self_terms.specs.declared.bodies.Body.{Body}
@@ -34,7 +34,7 @@ use Rattle.plain_spawns.specs.Spawns.{begins_with_context}
 use Rattle.plain_spawns.proofs.Starting.{activities_begin as activities_begin_with_contexts}
 use Rattle.plain_turns.specs.Resting.{IsReady, Rests}
 use Rattle.plain_births.specs.Meeting.{lobby_meets}
-use Rattle.plain_births.specs.Births.{Born, BirthsRest, BirthsFill, is_costly, HasRoomThere, ContextsHaveRoom}
+use Rattle.plain_births.specs.Births.{Born, BirthsRest, BirthsFill, is_costly, ContextsHaveRoom}
 use Rattle.plain_births.proofs.Meeting.{spawns, method_fits}
 
 -- where frames go to memory, what is ready stays so
