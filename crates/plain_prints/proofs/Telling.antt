@@ -18,6 +18,7 @@ use Rattle.plain_runs.specs.Host.{Host}
 use Rattle.plain_turns.specs.Primitives.{Says}
 use Rattle.plain_prints.specs.Lines.{IntSays, TextSays, Line, Front}
 use Rattle.plain_prints.specs.Printing.{printing_of}
+use Rattle.plain_prints.proofs.Taking.{ok_so, err_so}
 use Rattle.plain_prints.specs.declared.printing.Printing.TheVariants.{Nothing, Text as String, Integer}
 
 -- A test of which neither side prints anything.
@@ -149,3 +150,24 @@ says_text h q line e says = λ heap cells places made s v vs is x. ap printed_by
 
 pub says_integer : (h : Host) (q : Primitive) (line : List ℕ) → printing_of q ≡ Integer → IntSays (h.machine.regs 8) line → Says h q line
 says_integer h q line e says = λ heap cells places made s v vs is x. ap printed_by (integers s q v vs e) ∙ says h.maps h.machine.memory heap cells places s.things made v is x
+
+-- what is said of words that are those of a host
+moved : (h : Host) (maps : List Slots) (mem : Words) (w : ℕ) (line : List ℕ) → maps ≡ h.maps → mem ≡ h.machine.memory → w ≡ h.machine.regs 8 → TextSays maps mem w line → TextSays h.maps h.machine.memory (h.machine.regs 8) line
+moved h maps mem w line a b c says =
+    let A : List Slots → Type 0 = λ x. TextSays x mem w line in
+    let B : Words → Type 0 = λ x. TextSays h.maps x w line in
+    let C : ℕ → Type 0 = λ x. TextSays h.maps h.machine.memory x line in
+    subst C c (subst B b (subst A a says))
+
+module _ {T E : Type 0} (h : Host) (q : Primitive) (r : Result T E) (old new : Option (List ℕ)) where
+  pub text_said : (maps : List Slots) (mem : Words) (w : ℕ) → printing_of q ≡ String → maps ≡ h.maps → mem ≡ h.machine.memory → w ≡ h.machine.regs 8 → OnOk r (Line (TextSays maps mem w) old new) → OnOk r ((line : List ℕ) × Says h q line × Takes old new line)
+  text_said maps mem w e a b c is = ok_so r (Line (TextSays maps mem w) old new) ((line : List ℕ) × Says h q line × Takes old new line) (λ l. (l.line, says_text h q l.line e (moved h maps mem w l.line a b c l.is), l.takes)) is
+
+  pub text_broke : (maps : List Slots) (mem : Words) (w : ℕ) → printing_of q ≡ String → maps ≡ h.maps → mem ≡ h.machine.memory → w ≡ h.machine.regs 8 → OnErr r (Front (TextSays maps mem w) old new) → OnErr r ((line : List ℕ) × Says h q line × TakesFront old new line)
+  text_broke maps mem w e a b c is = err_so r (Front (TextSays maps mem w) old new) ((line : List ℕ) × Says h q line × TakesFront old new line) (λ l. (l.line, says_text h q l.line e (moved h maps mem w l.line a b c l.is), l.takes)) is
+
+  pub integer_said : (w : ℕ) → printing_of q ≡ Integer → w ≡ h.machine.regs 8 → OnOk r (Line (IntSays w) old new) → OnOk r ((line : List ℕ) × Says h q line × Takes old new line)
+  integer_said w e c is = ok_so r (Line (IntSays w) old new) ((line : List ℕ) × Says h q line × Takes old new line) (λ l. (l.line, says_integer h q l.line e (subst (λ (x : ℕ). IntSays x l.line) c l.is), l.takes)) is
+
+  pub integer_broke : (w : ℕ) → printing_of q ≡ Integer → w ≡ h.machine.regs 8 → OnErr r (Front (IntSays w) old new) → OnErr r ((line : List ℕ) × Says h q line × TakesFront old new line)
+  integer_broke w e c is = err_so r (Front (IntSays w) old new) ((line : List ℕ) × Says h q line × TakesFront old new line) (λ l. (l.line, says_integer h q l.line e (subst (λ (x : ℕ). IntSays x l.line) c l.is), l.takes)) is

@@ -97,7 +97,8 @@ fn print_string<K: Sink>(
     ensures front { OnErr result (Front (TextSays maps.now mem.now receiver) (K.taken out.old) (K.taken out.new)) }
     ensures cause { (K.faults out.old ≤ K.faults out.new) × (IsErrOf result PrintErr.Write → Rose (K.faults out.old) (K.faults out.new)) }
 {
-    if maps.map_of(mem, receiver).0 != 1 {
+    let map = maps.map_of(mem, receiver);
+    if map.0 != 1 {
         return Ok(());
     }
     let mut piece = Piece::open(alloc)?;

@@ -1,5 +1,6 @@
 use Rattle.std.proofs.Common.{◌≤◌, ◌+◌, arith}
 use Rattle.plain_prints.proofs.Piecing.{text_begins, text_goes, text_ends, front_goes}
+use Rattle.plain_prints.proofs.Taking.{on_err}
 use Rattle.plain_prints.proofs.pieces.Piece.put_text.Goals as goal
 
 pub loop-k-init : goal.loop-k-init
@@ -8,7 +9,7 @@ loop-k-init g c = record { sent = text_begins (g.K.Sink.taken c.args.out.now) c.
 pub returns-in_err-make_room-clause-front : goal.returns-in_err-make_room-clause-front
 returns-in_err-make_room-clause-front g c =
     let taken = g.K.Sink.taken in
-    front_goes (taken c.args.out.now) (taken c.loop-k.out) (taken c.make_room.new.out) c.loop-k.self _ _ c.loop-k.invariant.sent c.in_err-make_room.ensures.front
+    on_err c.from_residual.result _ (front_goes (taken c.args.out.now) (taken c.loop-k.out) (taken c.make_room.new.out) c.loop-k.self _ _ c.loop-k.invariant.sent c.in_err-make_room.ensures.front)
 
 pub loop-k-preserved : goal.loop-k-preserved
 loop-k-preserved g c =
