@@ -1,4 +1,9 @@
+pub mod Known
+pub mod Laws
+pub mod Keeping
+pub mod Fronts
 pub mod Serving
+pub mod Performing
 pub mod Joining
 pub mod Rounds
 pub mod Births

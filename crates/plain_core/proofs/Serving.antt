@@ -1,142 +1,138 @@
 -- Each service as a turn.
-use Rattle.std.proofs.Common.{◌≡◌, ◌≢◌, ℕ, zero, suc, ◌+◌, ◌*◌, ◌-◌, ◌%◌, ◌<◌, ◌≤◌, List, [], ◌∷◌, refl, ◌∙◌, ap, sym, subst, arith, inl, inr}
-use Rattle.std.specs.Prelude.{true, false, Some, None, slice_get, get_or, length}
+use Rattle.std.proofs.Common.{◌≡◌, ◌≢◌, ℕ, zero, suc, ◌+◌, ◌*◌, ◌-◌, ◌%◌, ◌<◌, ◌≤◌, List, [], ◌∷◌, ◌++◌, refl, ◌∙◌, ap, sym, subst, arith, inl, inr}
+use Rattle.std.specs.Prelude.{true, false, Option, Some, None, slice_get, get_or, length}
+use Rattle.std.specs.Option.{option_and_then}
+use Rattle.std.proofs.lemmas.Option.{same_Some}
+use Rattle.io_ports.specs.Causes.{Takes}
 use Rattle.self_terms.specs.declared.errors.ErrorName.{ErrorName}
 use Rattle.self_terms.specs.declared.errors.ErrorName.TheVariants as errors
+use Rattle.self_terms.specs.declared.nodes.Selector.{Selector}
 use Rattle.self_terms.specs.declared.values.BodyId.{BodyId}
 use Rattle.object_maps.specs.declared.maps.SlotKind.TheVariants.{Field, Assign, Method}
 use Rattle.slot_lookup.specs.declared.sends.Found.TheVariants.{One}
-use Rattle.source_model.specs.Soundness.{body_in, HasBody}
+use Rattle.source_model.specs.Soundness.{body_in}
 use Rattle.source_model.specs.State.{State}
 use Rattle.sparc_store.specs.Words.{Words, HasWord}
 use Rattle.sparc_machine.specs.State.{IsWhole}
-use Rattle.self_terms.specs.declared.nodes.Place.{Place}
-use Rattle.self_terms.specs.declared.nodes.Selector.{Selector}
-use Rattle.std.specs.Option.{option_and_then}
-use Rattle.std.proofs.lemmas.Option.{same_Some}
 use Rattle.plain_words.specs.Units.{unit_code}
 use Rattle.plain_words.specs.Going.{At}
 use Rattle.plain_words.specs.Putting.{Apart}
-use Rattle.plain_runs.specs.Services.{next_unit}
+use Rattle.plain_sends.specs.Found.{data_word}
 use Rattle.plain_sends.specs.Sends.{selector_of}
 use Rattle.plain_runs.specs.Host.{Host}
-use Rattle.plain_runs.specs.Services.{data_answers, assigns, calls, with_unit, waits, ends, fails}
-use Rattle.plain_sends.specs.Found.{data_word}
+use Rattle.plain_runs.specs.declared.status.Status.{Status}
+use Rattle.plain_runs.specs.declared.status.Status.TheVariants.{Waiting}
+use Rattle.plain_runs.specs.Services.{data_answers, assigns, calls, with_unit, waits, ends, next_unit}
 use Rattle.plain_answers.specs.Found.{error_of}
 use Rattle.plain_answers.specs.Whole.{whole}
+use Rattle.plain_served.specs.Serving.{refusal, MayTestMark}
 use Rattle.plain_units.specs.Putting.{IsPut}
-use Rattle.plain_stretches.specs.Gate.{is_blockless}
-use Rattle.plain_turns.specs.Asking.{count, node_here, place_here, place_before, found_here, behind_poll, goes_back, bare_sum_here, sum_error}
-use Rattle.plain_turns.specs.Events.{Waits, Answers, Assigns, Calls, Puts, Misses, Overflows, Unbuilt, Refuses, Performs, Returns, Ends}
-use Rattle.plain_turns.specs.Resting.{IsAtTrap}
-use Rattle.plain_turns.specs.Turns.{IsAsked, AtTrap}
-use Rattle.plain_turns.proofs.Running.{traps_tell, objects_count}
-use Rattle.plain_turns.proofs.Ending.{goals_end, answers_end, primitives_end, returns_end}
-use Rattle.plain_turns.proofs.Failing.{sums_end}
-use Rattle.plain_turns.proofs.Asked.{messages_ask, fields_are_read}
-use Rattle.plain_turns.proofs.Answering.{data_turns, assignments_turn, misses_end, calls_turn, overflows_end, unbuilt_end}
-use Rattle.plain_turns.proofs.Putting.{methods_there, units_fit, units_turn}
-use Rattle.plain_core.specs.Turning.{StandsAt, Served, on, again, ended}
+use Rattle.plain_unwinds.specs.Services.{CanUnwind, fails_unmarked, unwinds}
+use Rattle.plain_turns.specs.Asking.{count, cost_left, node_here, place_here, found_here, behind_poll, goes_back}
+use Rattle.plain_turns.specs.Events.{Serves, Waits, Answers, Assigns, Calls, Puts, Misses, Refuses, Returns, Fills, Ends}
+use Rattle.plain_turns.specs.Resting.{IsAtTrap, HasRun}
+use Rattle.plain_turns.specs.Rooms.{unmade}
+use Rattle.plain_turns.specs.Turns.{IsAsked, IsThere, AtTrap, StepsOn, BeginsAgain, is_over}
+use Rattle.plain_core.specs.Language.{Language, IsSpoken}
+use Rattle.plain_core.specs.Turning.{StandsAt, Served, Quiet, Turned, on, again, ended}
+use Rattle.plain_core.specs.declared.turning.Turn.{Turn}
 use Rattle.plain_core.specs.declared.turning.Turn.TheVariants as turns
+use Rattle.plain_core.proofs.Laws.{traps_tell, goals_end, answers_end, stores_fill, returns_turn, messages_ask, fields_are_read, data_turns, assignments_turn, misses_end, methods_there, units_fit, units_turn, marks_may_be_tested, calls_turn, refusals_end}
+use Rattle.plain_core.proofs.Fronts.{no_more, takes_none}
+use Rattle.plain_core.proofs.Keeping.{unwound_entries, unwound_objects, unwound_current}
 
-pub told : (h : Host) (trap target : ℕ) → StandsAt h trap target → AtTrap h trap target
-told h trap target at = traps_tell h trap at.0 target at.1
+pub told : (l : Language) (h : Host) (trap target : ℕ) → StandsAt l h trap target → AtTrap h trap target
+told l h trap target at = traps_tell h trap at.from target at.out at.at
 
-pub room_for : (h : Host) (from : State) (target room : ℕ) (x : IsAtTrap h 1 from target) → h.next ≤ room → length x.state.things ≤ room
-room_for h from target room x fits = subst (λ (k : ℕ). k ≤ room) (sym (objects_count h 1 from target x)) fits
+pub asked : (l : Language) (h : Host) (target room : ℕ) → StandsAt l h 1 target → h.next ≤ room → IsAsked h target room
+asked l h target room at fits = messages_ask h at.from target at.out room at.at fits
 
-pub asked : (h : Host) (target room : ℕ) → StandsAt h 1 target → h.next ≤ room → IsAsked h target room
-asked h target room at fits = messages_ask h at.0 target room at.1 (room_for h at.0 target room at.1 fits)
+-- A service that prints nothing.
+silently : (h to : Host) (from : State) (target : ℕ) (out : List ℕ) (t : Turn) → Turned h to from target out t → Turned h to from target (out ++ []) t
+silently h to from target out t k = let P : List ℕ → Type 0 = λ ys. Turned h to from target ys t in subst P (sym (no_more out)) k
 
-pub data_served : (h : Host) (target room cost word : ℕ) → StandsAt h 1 target → h.next ≤ room → data_word (whole h) (found_here room h) ≡ Some word → Served room 1 h (data_answers (target - count h - 1) cost word h) target turns.On
-data_served h target room cost word at fits found = record {
-  serves = Answers at.1.stands (target - count h - 1) cost word found;
-  objects = refl;
-  turned = λ from x. on refl (data_turns h from target room x (room_for h from target room x fits) cost word found);
+pub quietly : (l : Language) (trap : ℕ) (h to : Host) (target : ℕ) (t : Turn) → Serves h to → to.next ≡ h.next → ((from : State) (out : List ℕ) → IsSpoken l from → IsAtTrap h trap from target out → Turned h to from target out t) → Quiet l trap h to target t
+quietly l trap h to target t serves objects turned = record {
+  served = λ taken. record {
+    serves = serves;
+    said = [];
+    takes = takes_none taken;
+    turned = λ from out spoken x. silently h to from target out t (turned from out spoken x);
+  };
+  objects = objects;
 }
 
-pub assignment_served : (h : Host) (target room cost holder place : ℕ) → StandsAt h 1 target → h.next ≤ room → found_here room h ≡ One holder (Assign place) → Served room 1 h (assigns (target - count h - 1) cost (holder + 7 + 4 * place) h) target turns.On
-assignment_served h target room cost holder place at fits found = record {
-  serves = Assigns at.1.stands (target - count h - 1) cost holder place found;
-  objects = refl;
-  turned = λ from x. on refl (assignments_turn h from target room x (room_for h from target room x fits) cost holder place found);
-}
+pub quiet_as : (l : Language) (trap : ℕ) (h one two : Host) (target : ℕ) (t u : Turn) → two ≡ one → u ≡ t → Quiet l trap h one target t → Quiet l trap h two target u
+quiet_as l trap h one two target t u e f q =
+    let P : Host → Type 0 = λ y. Quiet l trap h y target u in
+    let Q : Turn → Type 0 = λ k. Quiet l trap h one target k in
+    subst P (sym e) (subst Q (sym f) q)
 
-pub miss_served : (h : Host) (target room : ℕ) (e : ErrorName) → StandsAt h 1 target → h.next ≤ room → error_of (found_here room h) ≡ Some e → Served room 1 h (fails 0 0 e (place_here h) h) target turns.Ended
-miss_served h target room e at fits found = record {
-  serves = Misses at.1.stands 0 0 e found;
-  objects = refl;
-  turned = λ from x. ended (misses_end h from target room x (room_for h from target room x fits) 0 0 e (omega arith) found);
-}
+module _ (l : Language) (h : Host) (target : ℕ) where
+  pub wait_served : StandsAt l h 2 target → Quiet l 2 h (waits 0 (cost_left h) h) target turns.Ended
+  wait_served at = quietly l 2 h _ target turns.Ended (Waits at.at.stands 0 (cost_left h)) refl (λ from out spoken x. ended ((goals_end h from target out x).1 0 (omega arith)))
 
-pub refusal_served : (h : Host) (target room holder : ℕ) (c : BodyId) → StandsAt h 1 target → h.next ≤ room → found_here room h ≡ One holder (Method c) → is_blockless (body_in h.bodies c.0) ≡ false
-    → Served room 1 h (fails 0 0 errors.NotBuilt (place_here h) h) target turns.Ended
-refusal_served h target room holder c at fits found blocks = record {
-  serves = Unbuilt at.1.stands 0 0 holder c found blocks;
-  objects = refl;
-  turned = λ from x. ended (unbuilt_end h from target room x (room_for h from target room x fits) 0 0 holder c (omega arith) found blocks);
-}
+  pub end_served : StandsAt l h 9 target → Quiet l 9 h (ends 0 (cost_left h) h) target turns.Ended
+  end_served at = quietly l 9 h _ target turns.Ended (Ends at.at.stands 0 (cost_left h)) refl (λ from out spoken x. ended (answers_end h from target out x 0 (omega arith)))
 
-pub overflow_served : (h : Host) (target room holder entry : ℕ) (c : BodyId) → StandsAt h 1 target → h.next ≤ room → found_here room h ≡ One holder (Method c) → slice_get h.entries (c.0 - 1) ≡ Some entry → entry ≢ 0 → 4096 ≤ h.machine.regs 4
-    → Served room 1 h (fails 0 0 errors.StackOverflow (place_here h) h) target turns.Ended
-overflow_served h target room holder entry c at fits found there some many = record {
-  serves = Overflows at.1.stands 0 0 holder c found many;
-  objects = refl;
-  turned = λ from x. ended (overflows_end h from target room x (room_for h from target room x fits) 0 0 holder entry c (omega arith) found there some many);
-}
+  pub fill_served : StandsAt l h 8 target → Quiet l 8 h (fails_unmarked 0 (cost_left h) errors.StoreFull (place_here h) h) target turns.Ended
+  fill_served at = quietly l 8 h _ target turns.Ended (Fills at.at.stands 0 (cost_left h)) refl (λ from out spoken x. ended (stores_fill h from target out x 0 (omega arith)))
 
-pub call_served : (h : Host) (target room cost holder entry : ℕ) (c : BodyId) → StandsAt h 1 target → h.next ≤ room → found_here room h ≡ One holder (Method c) → slice_get h.entries (c.0 - 1) ≡ Some entry → entry ≢ 0 → h.machine.regs 4 < 4096
-    → Served room 1 h (calls (target - count h) cost entry holder h) target turns.On
-call_served h target room cost holder entry c at fits found there some few = record {
-  serves = Calls at.1.stands (target - count h) cost holder entry c found there;
-  objects = refl;
-  turned = λ from x. on refl (calls_turn h from target room x (room_for h from target room x fits) cost holder entry c found there some few);
-}
+  pub home_ends : StandsAt l h 4 target → CanUnwind h
+  home_ends at = (told l h 4 target at).ends (λ (e : 4 ≡ 9). absurd (omega (arith, e)))
 
-pub unit_served : (h : Host) (target room cost holder : ℕ) (c : BodyId) (memory : Words) (at : StandsAt h 1 target) (fits : h.next ≤ room) → found_here room h ≡ One holder (Method c) → slice_get h.entries (c.0 - 1) ≡ Some 0
-    → is_blockless (body_in h.bodies c.0) ≡ true → IsPut h c.0 memory → Served room 1 h (goes_back (behind_poll (asked h target room at fits).selector.args) (target - count h) cost (with_unit c.0 memory h)) target turns.On
-unit_served h target room cost holder c memory at fits found none plain put =
-    let a = asked h target room at fits in
-    record {
-      serves = Puts at.1.stands (target - count h) cost holder (behind_poll a.selector.args) c memory found put;
-      objects = refl;
-      turned = λ from x. again (units_turn h from target room x (room_for h from target room x fits) a cost holder c found none plain memory put);
-    }
+  abbrev home : Host
+  home = unwinds (target - count h - 1) (cost_left h) h
 
-pub wait_served : (h : Host) (target room : ℕ) → StandsAt h 2 target → Served room 2 h (waits 0 0 h) target turns.Ended
-wait_served h target room at = record {
-  serves = Waits at.1.stands 0 0;
-  objects = refl;
-  turned = λ from x. ended ((goals_end h from target x).1 0 0 (omega arith));
-}
+  pub home_left : StandsAt l h 4 target → count h < target
+  home_left at = (returns_turn h at.from target at.out at.at).left
 
-pub end_served : (h : Host) (target room : ℕ) → StandsAt h 9 target → Served room 9 h (ends 0 0 h) target turns.Ended
-end_served h target room at = record {
-  serves = Ends at.1.stands 0 0;
-  objects = refl;
-  turned = λ from x. ended (answers_end h from target x 0 0 (omega arith));
-}
+  pub home_on : StandsAt l h 4 target → (sp pc known : ℕ) → slice_get home.statuses h.current ≡ Some (Waiting sp pc known) → Quiet l 4 h home target turns.On
+  home_on at sp pc known waits = quietly l 4 h home target turns.On (Returns at.at.stands (target - count h - 1) (cost_left h)) (unwound_objects (target - count h - 1) (cost_left h) h)
+      (λ from out spoken x. on (ap unmade (unwound_entries (target - count h - 1) (cost_left h) h)) ((returns_turn h from target out x).on sp pc known waits))
 
-pub sum_served : (h : Host) (target room : ℕ) → StandsAt h 3 target → bare_sum_here h ≡ true → Served room 3 h (fails 0 0 (sum_error h) (place_here h) h) target turns.Ended
-sum_served h target room at bare = record {
-  serves = Refuses at.1.stands 0 0 bare;
-  objects = refl;
-  turned = λ from x. ended (sums_end h from target x bare 0 0 (omega arith));
-}
+  pub home_ended : StandsAt l h 4 target → ((sp pc known : ℕ) → slice_get home.statuses h.current ≢ Some (Waiting sp pc known)) → Quiet l 4 h home target turns.Ended
+  home_ended at over =
+      let is : is_over home = λ sp pc known e. over sp pc known (ap (λ (k : ℕ). slice_get home.statuses k) (sym (unwound_current (target - count h - 1) (cost_left h) h)) ∙ e) in
+      quietly l 4 h home target turns.Ended (Returns at.at.stands (target - count h - 1) (cost_left h)) (unwound_objects (target - count h - 1) (cost_left h) h)
+          (λ from out spoken x. ended ((returns_turn h from target out x).over is))
 
-pub primitive_served : (h : Host) (target room : ℕ) → StandsAt h 3 target → bare_sum_here h ≡ false → Served room 3 h (fails 0 0 errors.NotBuilt (place_here h) h) target turns.Ended
-primitive_served h target room at other = record {
-  serves = Performs at.1.stands 0 0 other;
-  objects = refl;
-  turned = λ from x. ended (primitives_end h from target x other 0 0 (omega arith));
-}
+-- Those of messages.
+module _ (l : Language) (h : Host) (target room : ℕ) (at : StandsAt l h 1 target) (fits : h.next ≤ room) where
+  pub data_served : (word : ℕ) → data_word (whole h) (found_here room h) ≡ Some word → Quiet l 1 h (data_answers (target - count h - 1) (cost_left h) word h) target turns.On
+  data_served word found = quietly l 1 h _ target turns.On (Answers at.at.stands room (target - count h - 1) (cost_left h) word fits found) refl (λ from out spoken x. on refl (data_turns h from target out room x fits word found))
 
-pub home_served : (h : Host) (target room : ℕ) → StandsAt h 4 target → Served room 4 h (fails 0 0 errors.NotBuilt (place_before h) h) target turns.Ended
-home_served h target room at = record {
-  serves = Returns at.1.stands 0 0;
-  objects = refl;
-  turned = λ from x. ended (returns_end h from target x 0 0 (omega arith));
-}
+  pub assignment_served : (holder place : ℕ) → found_here room h ≡ One holder (Assign place) → Quiet l 1 h (assigns (target - count h - 1) (cost_left h) (holder + 7 + 4 * place) h) target turns.On
+  assignment_served holder place found = quietly l 1 h _ target turns.On (Assigns at.at.stands room (target - count h - 1) (cost_left h) holder place fits found) refl
+      (λ from out spoken x. on refl (assignments_turn h from target out room x fits holder place found))
+
+  pub miss_served : (e : ErrorName) → error_of (found_here room h) ≡ Some e → Quiet l 1 h (fails_unmarked 0 (cost_left h) e (place_here h) h) target turns.Ended
+  miss_served e found = quietly l 1 h _ target turns.Ended (Misses at.at.stands room 0 (cost_left h) e fits found) refl (λ from out spoken x. ended (misses_end h from target out room x fits 0 e (omega arith) found))
+
+  module _ (holder : ℕ) (c : BodyId) (found : found_here room h ≡ One holder (Method c)) where
+    pub method_there : IsThere h c
+    method_there = methods_there h at.from target at.out room at.at fits holder c found
+
+    pub entry_fits : (entry : ℕ) → slice_get h.entries (c.0 - 1) ≡ Some entry → entry + 4 < 4294967296
+    entry_fits entry there = let m = method_there in subst (λ (k : ℕ). k + 4 < 4294967296) (same_Some m.entry entry (sym m.entry_is ∙ there)) m.low
+
+    pub mark_there : (entry : ℕ) → slice_get h.entries (c.0 - 1) ≡ Some entry → entry ≢ 0 → MayTestMark h c.0
+    mark_there entry there some = marks_may_be_tested h at.from target at.out room at.at fits holder entry c found there some
+
+    pub call_served : (entry : ℕ) → slice_get h.entries (c.0 - 1) ≡ Some entry → entry ≢ 0 → refusal h c.0 ≡ None → Quiet l 1 h (calls (target - count h) (cost_left h) entry holder h) target turns.On
+    call_served entry there some through = quietly l 1 h _ target turns.On (Calls at.at.stands room (target - count h) (cost_left h) holder entry c fits found there through) refl
+        (λ from out spoken x. on refl (calls_turn h from target out room x fits holder entry c found there some through))
+
+    pub refusal_served : (entry : ℕ) (e : ErrorName) → slice_get h.entries (c.0 - 1) ≡ Some entry → entry ≢ 0 → refusal h c.0 ≡ Some e → Quiet l 1 h (fails_unmarked 0 (cost_left h) e (place_here h) h) target turns.Ended
+    refusal_served entry e there some refused = quietly l 1 h _ target turns.Ended (Refuses at.at.stands room 0 (cost_left h) holder c e fits found refused) refl
+        (λ from out spoken x. ended (refusals_end h from target out room x fits 0 holder entry c e (omega arith) found there some refused))
+
+    pub unit_served : (memory : Words) → slice_get h.entries (c.0 - 1) ≡ Some 0 → IsPut h c.0 memory
+        → Quiet l 1 h (goes_back (behind_poll (asked l h target room at fits).selector.args) (target - count h) (cost_left h) (with_unit c.0 memory h)) target turns.On
+    unit_served memory none put =
+        let a = asked l h target room at fits in
+        quietly l 1 h _ target turns.On (Puts at.at.stands room (target - count h) (cost_left h) holder (behind_poll a.selector.args) c memory fits found put) refl
+            (λ from out spoken x. again (units_turn h from target out room x fits a holder c found none memory put))
 
 -- What the calls tell, put together.
 
@@ -149,76 +145,45 @@ none_or (x ∷ xs) (suc i) d e = none_or xs i d e
 pub word_small : (at : ℕ) → HasWord at → at < 4294967296
 word_small at (a, b) = elim b [ inl c ↦ omega (arith, c.1) | inr c ↦ elim c [ inl d ↦ omega (arith, d.1) | inr d ↦ elim d [ inl e ↦ omega (arith, e.1) | inr e ↦ omega (arith, e.1) ] ] ]
 
-pub field_there : (h : Host) (target room holder place : ℕ) → StandsAt h 1 target → h.next ≤ room → found_here room h ≡ One holder (Field place) → HasWord (holder + 7 + 4 * place)
-field_there h target room holder place at fits found = fields_are_read h at.0 target room at.1 (room_for h at.0 target room at.1 fits) holder place (inl found)
+pub field_there : (l : Language) (h : Host) (target room holder place : ℕ) → StandsAt l h 1 target → h.next ≤ room → found_here room h ≡ One holder (Field place) → HasWord (holder + 7 + 4 * place)
+field_there l h target room holder place at fits found = fields_are_read h at.from target at.out room at.at fits holder place (inl found)
 
-pub assigned_there : (h : Host) (target room holder place : ℕ) → StandsAt h 1 target → h.next ≤ room → found_here room h ≡ One holder (Assign place) → HasWord (holder + 7 + 4 * place)
-assigned_there h target room holder place at fits found = fields_are_read h at.0 target room at.1 (room_for h at.0 target room at.1 fits) holder place (inr found)
+pub assigned_there : (l : Language) (h : Host) (target room holder place : ℕ) → StandsAt l h 1 target → h.next ≤ room → found_here room h ≡ One holder (Assign place) → HasWord (holder + 7 + 4 * place)
+assigned_there l h target room holder place at fits found = fields_are_read h at.from target at.out room at.at fits holder place (inr found)
 
-pub entry_fits : (h : Host) (target room holder entry : ℕ) (c : BodyId) → StandsAt h 1 target → h.next ≤ room → found_here room h ≡ One holder (Method c) → slice_get h.entries (c.0 - 1) ≡ Some entry → entry + 4 < 4294967296
-entry_fits h target room holder entry c at fits found there =
-    let m = methods_there h at.0 target room at.1 (room_for h at.0 target room at.1 fits) holder c found in
-    let e = m.2 in
-    subst (λ (k : ℕ). k + 4 < 4294967296) (same_Some e.0 entry (sym e.1 ∙ there)) e.2
+module _ {l : Language} {h to : Host} {target room : ℕ} where
+  pub answered : (cost word left : ℕ) → to ≡ data_answers (left - 1) cost word h → left ≡ target - count h → cost ≡ cost_left h → StandsAt l h 1 target → h.next ≤ room → data_word (whole h) (found_here room h) ≡ Some word → Quiet l 1 h to target turns.On
+  answered cost word left e f g at fits found =
+      quiet_as l 1 h _ to target turns.On turns.On (e ∙ ap (λ (k : ℕ). data_answers (k - 1) cost word h) f ∙ ap (λ (k : ℕ). data_answers (target - count h - 1) k word h) g) refl (data_served l h target room at fits word found)
 
-pub method_there : (h : Host) (target room holder : ℕ) (c : BodyId) → StandsAt h 1 target → h.next ≤ room → found_here room h ≡ One holder (Method c) → HasBody h.bodies c.0
-method_there h target room holder c at fits found = (methods_there h at.0 target room at.1 (room_for h at.0 target room at.1 fits) holder c found).0
+  pub assigned : (cost holder place left : ℕ) → to ≡ assigns (left - 1) cost (holder + 7 + 4 * place) h → left ≡ target - count h → cost ≡ cost_left h → StandsAt l h 1 target → h.next ≤ room → found_here room h ≡ One holder (Assign place) → Quiet l 1 h to target turns.On
+  assigned cost holder place left e f g at fits found =
+      quiet_as l 1 h _ to target turns.On turns.On (e ∙ ap (λ (k : ℕ). assigns (k - 1) cost (holder + 7 + 4 * place) h) f ∙ ap (λ (k : ℕ). assigns (target - count h - 1) k (holder + 7 + 4 * place) h) g) refl (assignment_served l h target room at fits holder place found)
 
-pub entry_there : (h : Host) (target room holder : ℕ) (c : BodyId) → StandsAt h 1 target → h.next ≤ room → found_here room h ≡ One holder (Method c) → (entry : ℕ) × (slice_get h.entries (c.0 - 1) ≡ Some entry)
-entry_there h target room holder c at fits found =
-    let e = (methods_there h at.0 target room at.1 (room_for h at.0 target room at.1 fits) holder c found).2 in
-    (e.0, e.1)
+  pub called : (cost holder entry left : ℕ) (c : BodyId) → to ≡ calls left cost entry holder h → left ≡ target - count h → cost ≡ cost_left h → StandsAt l h 1 target → h.next ≤ room → found_here room h ≡ One holder (Method c) → slice_get h.entries (c.0 - 1) ≡ Some entry → entry ≢ 0
+      → refusal h c.0 ≡ None → Quiet l 1 h to target turns.On
+  called cost holder entry left c e f g at fits found there some through =
+      quiet_as l 1 h _ to target turns.On turns.On (e ∙ ap (λ (k : ℕ). calls k cost entry holder h) f ∙ ap (λ (k : ℕ). calls (target - count h) k entry holder h) g) refl (call_served l h target room at fits holder c found entry there some through)
 
-module _ {h to : Host} {target room : ℕ} where
-  pub answered : (cost word left : ℕ) → to ≡ data_answers (left - 1) cost word h → left ≡ target - count h → StandsAt h 1 target → h.next ≤ room → data_word (whole h) (found_here room h) ≡ Some word → Served room 1 h to target turns.On
-  answered cost word left e f at fits found =
-      let P : Host → Type 0 = λ y. Served room 1 h y target turns.On in
-      subst P (sym (e ∙ ap (λ k. data_answers (k - 1) cost word h) f)) (data_served h target room cost word at fits found)
+  pub waited : (cost : ℕ) → to ≡ waits 0 cost h → cost ≡ cost_left h → StandsAt l h 2 target → Quiet l 2 h to target turns.Ended
+  waited cost e f at = quiet_as l 2 h _ to target turns.Ended turns.Ended (e ∙ ap (λ (k : ℕ). waits 0 k h) f) refl (wait_served l h target at)
 
-  pub assigned : (cost holder place left : ℕ) → to ≡ assigns (left - 1) cost (holder + 7 + 4 * place) h → left ≡ target - count h → StandsAt h 1 target → h.next ≤ room → found_here room h ≡ One holder (Assign place) → Served room 1 h to target turns.On
-  assigned cost holder place left e f at fits found =
-      let P : Host → Type 0 = λ y. Served room 1 h y target turns.On in
-      subst P (sym (e ∙ ap (λ k. assigns (k - 1) cost (holder + 7 + 4 * place) h) f)) (assignment_served h target room cost holder place at fits found)
+  pub ended_by : (cost : ℕ) → to ≡ ends 0 cost h → cost ≡ cost_left h → StandsAt l h 9 target → Quiet l 9 h to target turns.Ended
+  ended_by cost e f at = quiet_as l 9 h _ to target turns.Ended turns.Ended (e ∙ ap (λ (k : ℕ). ends 0 k h) f) refl (end_served l h target at)
 
-  pub called : (cost holder entry left : ℕ) (c : BodyId) → to ≡ calls left cost entry holder h → left ≡ target - count h → StandsAt h 1 target → h.next ≤ room → found_here room h ≡ One holder (Method c) → slice_get h.entries (c.0 - 1) ≡ Some entry → entry ≢ 0
-      → h.machine.regs 4 < 4096 → Served room 1 h to target turns.On
-  called cost holder entry left c e f at fits found there some few =
-      let P : Host → Type 0 = λ y. Served room 1 h y target turns.On in
-      subst P (sym (e ∙ ap (λ k. calls k cost entry holder h) f)) (call_served h target room cost holder entry c at fits found there some few)
+  home_is : (left cost : ℕ) → to ≡ unwinds (left - 1) cost h → left ≡ target - count h → cost ≡ cost_left h → to ≡ unwinds (target - count h - 1) (cost_left h) h
+  home_is left cost e f g = e ∙ ap (λ (k : ℕ). unwinds (k - 1) cost h) f ∙ ap (λ (k : ℕ). unwinds (target - count h - 1) k h) g
 
-  by_place : (trap : ℕ) (e : ErrorName) (p q : Place) → to ≡ fails 0 0 e p h → p ≡ q → Served room trap h (fails 0 0 e q h) target turns.Ended → Served room trap h to target turns.Ended
-  by_place trap e p q is same k =
-      let P : Host → Type 0 = λ y. Served room trap h y target turns.Ended in
-      subst P (sym (is ∙ ap (λ (o : Place). fails 0 0 e o h) same)) k
+  pub went_home : (left cost current : ℕ) (o : Option Status) (sp pc known : ℕ) → to ≡ unwinds (left - 1) cost h → left ≡ target - count h → cost ≡ cost_left h → StandsAt l h 4 target → current ≡ h.current → o ≡ slice_get to.statuses current → o ≡ Some (Waiting sp pc known) → Quiet l 4 h to target turns.On
+  went_home left cost current o sp pc known e f g at same status waits =
+      let is = home_is left cost e f g in
+      let told_status = ap (λ (y : Host). slice_get y.statuses h.current) (sym is) ∙ ap (λ (k : ℕ). slice_get to.statuses k) (sym same) ∙ sym status ∙ waits in
+      quiet_as l 4 h _ to target turns.On turns.On is refl (home_on l h target at sp pc known told_status)
 
-  pub missed : (e : ErrorName) (p : Place) → to ≡ fails 0 0 e p h → p ≡ place_here h → StandsAt h 1 target → h.next ≤ room → error_of (found_here room h) ≡ Some e → Served room 1 h to target turns.Ended
-  missed e p is same at fits found = by_place _ _ _ _ is same (miss_served h target room e at fits found)
-
-  pub refused : (holder : ℕ) (c : BodyId) (p : Place) → to ≡ fails 0 0 errors.NotBuilt p h → p ≡ place_here h → StandsAt h 1 target → h.next ≤ room → found_here room h ≡ One holder (Method c) → is_blockless (body_in h.bodies c.0) ≡ false → Served room 1 h to target turns.Ended
-  refused holder c p is same at fits found blocks = by_place _ _ _ _ is same (refusal_served h target room holder c at fits found blocks)
-
-  pub overflowed : (holder entry : ℕ) (c : BodyId) (p : Place) → to ≡ fails 0 0 errors.StackOverflow p h → p ≡ place_here h → StandsAt h 1 target → h.next ≤ room → found_here room h ≡ One holder (Method c) → slice_get h.entries (c.0 - 1) ≡ Some entry → entry ≢ 0
-      → 4096 ≤ h.machine.regs 4 → Served room 1 h to target turns.Ended
-  overflowed holder entry c p is same at fits found there some many = by_place _ _ _ _ is same (overflow_served h target room holder entry c at fits found there some many)
-
-  pub sum_failed : (e : ErrorName) (p : Place) → to ≡ fails 0 0 e p h → e ≡ sum_error h → p ≡ place_here h → StandsAt h 3 target → bare_sum_here h ≡ true → Served room 3 h to target turns.Ended
-  sum_failed e p is told_error same at bare = by_place _ _ _ _ (is ∙ ap (λ (k : ErrorName). fails 0 0 k p h) told_error) same (sum_served h target room at bare)
-
-  pub lacked : (p : Place) → to ≡ fails 0 0 errors.NotBuilt p h → p ≡ place_here h → StandsAt h 3 target → bare_sum_here h ≡ false → Served room 3 h to target turns.Ended
-  lacked p is same at other = by_place _ _ _ _ is same (primitive_served h target room at other)
-
-  pub left_home : (p : Place) → to ≡ fails 0 0 errors.NotBuilt p h → p ≡ place_before h → StandsAt h 4 target → Served room 4 h to target turns.Ended
-  left_home p is same at = by_place _ _ _ _ is same (home_served h target room at)
-
-  pub waited : to ≡ waits 0 0 h → StandsAt h 2 target → Served room 2 h to target turns.Ended
-  waited is at =
-      let P : Host → Type 0 = λ y. Served room 2 h y target turns.Ended in
-      subst P (sym is) (wait_served h target room at)
-
-  pub ended_by : to ≡ ends 0 0 h → StandsAt h 9 target → Served room 9 h to target turns.Ended
-  ended_by is at =
-      let P : Host → Type 0 = λ y. Served room 9 h y target turns.Ended in
-      subst P (sym is) (end_served h target room at)
+  pub was_home : (left cost current : ℕ) (o : Option Status) → to ≡ unwinds (left - 1) cost h → left ≡ target - count h → cost ≡ cost_left h → StandsAt l h 4 target → current ≡ h.current → o ≡ slice_get to.statuses current → ((sp pc known : ℕ) → o ≢ Some (Waiting sp pc known)) → Quiet l 4 h to target turns.Ended
+  was_home left cost current o e f g at same status over =
+      let is = home_is left cost e f g in
+      quiet_as l 4 h _ to target turns.Ended turns.Ended is refl (home_ended l h target at (λ sp pc known k. over sp pc known (status ∙ ap (λ (k : ℕ). slice_get to.statuses k) same ∙ ap (λ (y : Host). slice_get y.statuses h.current) is ∙ k)))
 
 -- units stand at addresses that 4 divides
 aligned_by : (k : ℕ) → (0x10000400 + 4 * k) % 4 ≡ 0
@@ -227,37 +192,36 @@ aligned_by k = omega arith
 next_aligned : (h : Host) → next_unit h % 4 ≡ 0
 next_aligned h = aligned_by (length h.points)
 
-pub back_is : (h : Host) (target room back : ℕ) (at : StandsAt h 1 target) (fits : h.next ≤ room) → ((s : Selector) → option_and_then selector_of (node_here h) ≡ Some s → back ≡ behind_poll s.args) → back ≡ behind_poll (asked h target room at fits).selector.args
-back_is h target room back at fits told_by =
-    let a = asked h target room at fits in
+pub back_is : (l : Language) (h : Host) (target room back : ℕ) (at : StandsAt l h 1 target) (fits : h.next ≤ room) → ((s : Selector) → option_and_then selector_of (node_here h) ≡ Some s → back ≡ behind_poll s.args) → back ≡ behind_poll (asked l h target room at fits).selector.args
+back_is l h target room back at fits told_by =
+    let a = asked l h target room at fits in
     told_by a.selector (ap (option_and_then selector_of) a.node_is ∙ a.sends)
 
 -- A unit that was put.
-module _ (h mid : Host) (target room holder : ℕ) (c : BodyId) (at : StandsAt h 1 target) (fits : h.next ≤ room) (found : found_here room h ≡ One holder (Method c)) (none : slice_get h.entries (c.0 - 1) ≡ Some 0) (plain : is_blockless (body_in h.bodies c.0) ≡ true) where
+module _ (l : Language) (h mid : Host) (target room holder : ℕ) (c : BodyId) (at : StandsAt l h 1 target) (fits : h.next ≤ room) (found : found_here room h ≡ One holder (Method c)) (none : slice_get h.entries (c.0 - 1) ≡ Some 0) where
   pub unit_fits : next_unit h + 4 * length (unit_code h.references (body_in h.bodies c.0)) ≤ 0x12000000
-  unit_fits = units_fit h at.0 target room at.1 (room_for h at.0 target room at.1 fits) holder c found none plain
-
-  pub there : HasBody h.bodies c.0
-  there = (methods_there h at.0 target room at.1 (room_for h at.0 target room at.1 fits) holder c found).0
+  unit_fits = units_fit h at.from target at.out room at.at fits holder c found none
 
   pub is_put : mid ≡ with_unit c.0 mid.machine.memory h → At mid.machine.memory (next_unit h) (unit_code h.references (body_in h.bodies c.0))
       → Apart h.machine.memory mid.machine.memory (next_unit h) (length (unit_code h.references (body_in h.bodies c.0))) → IsWhole mid.machine → IsPut h c.0 mid.machine.memory
-  is_put is code apart whole_now = record {
-    given = there.0;
-    known = there.1;
-    none = none;
-    region = record { aligned = next_aligned h; from = omega arith; to = unit_fits };
-    code = code;
-    apart = apart;
-    within = whole_now.memory_within;
-  }
+  is_put is code apart whole_now =
+      let there = (method_there l h target room at fits holder c found).body in
+      record {
+        given = there.0;
+        known = there.1;
+        none = none;
+        region = record { aligned = next_aligned h; from = omega arith; to = unit_fits };
+        code = code;
+        apart = apart;
+        within = whole_now.memory_within;
+      }
 
-  pub unit_put : (to : Host) (left cost back : ℕ) → to ≡ goes_back back left cost mid → left ≡ target - count h → ((s : Selector) → option_and_then selector_of (node_here h) ≡ Some s → back ≡ behind_poll s.args)
-      → mid ≡ with_unit c.0 mid.machine.memory h → IsPut h c.0 mid.machine.memory → Served room 1 h to target turns.On
-  unit_put to left cost back e f backs is put =
-      let P : Host → Type 0 = λ y. Served room 1 h y target turns.On in
-      let b = back_is h target room back at fits backs in
+  pub unit_put : (to : Host) (left cost back : ℕ) → to ≡ goes_back back left cost mid → left ≡ target - count h → cost ≡ cost_left h → ((s : Selector) → option_and_then selector_of (node_here h) ≡ Some s → back ≡ behind_poll s.args)
+      → mid ≡ with_unit c.0 mid.machine.memory h → IsPut h c.0 mid.machine.memory → Quiet l 1 h to target turns.On
+  unit_put to left cost back e f g backs is put =
+      let b = back_is l h target room back at fits backs in
       let memory = mid.machine.memory in
-      let moved : goes_back back left cost mid ≡ goes_back (behind_poll (asked h target room at fits).selector.args) (target - count h) cost (with_unit c.0 memory h)
-      = ap (λ (k : ℕ). goes_back k left cost mid) b ∙ ap (λ (k : ℕ). goes_back (behind_poll (asked h target room at fits).selector.args) k cost mid) f ∙ ap (λ (y : Host). goes_back (behind_poll (asked h target room at fits).selector.args) (target - count h) cost y) is in
-      subst P (sym (e ∙ moved)) (unit_served h target room cost holder c memory at fits found none plain put)
+      let far = behind_poll (asked l h target room at fits).selector.args in
+      let moved : goes_back back left cost mid ≡ goes_back far (target - count h) (cost_left h) (with_unit c.0 memory h)
+      = ap (λ (k : ℕ). goes_back k left cost mid) b ∙ ap (λ (k : ℕ). goes_back far k cost mid) f ∙ ap (λ (k : ℕ). goes_back far (target - count h) k mid) g ∙ ap (λ (y : Host). goes_back far (target - count h) (cost_left h) y) is in
+      quiet_as l 1 h _ to target turns.On turns.On (e ∙ moved) refl (unit_served l h target room at fits holder c found memory none put)

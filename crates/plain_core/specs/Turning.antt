@@ -1,13 +1,20 @@
 -- What the calls inside a run do. Used by contracts of private functions alone.
-use Rattle.std.specs.Prelude.{◌≡◌, ℕ, suc, ◌+◌, ◌-◌, ◌^◌, ◌<◌, ◌≤◌, ◌++◌, List, Option, Some, None}
-use Rattle.io_ports.specs.Causes.{Takes, TakesFront}
+use Rattle.std.specs.Prelude.{◌≡◌, ℕ, suc, ◌+◌, ◌-◌, ◌^◌, ◌<◌, ◌≤◌, ◌++◌, Bool, true, false, List, [], Option, Some, None}
+use Rattle.io_ports.specs.Causes.{Takes}
+use Rattle.self_terms.specs.declared.names.Name.{Name}
+use Rattle.self_terms.specs.declared.nodes.Node.TheVariants as nodes
+use Rattle.source_model.specs.declared.primitives.Primitive.{Primitive}
+use Rattle.source_model.specs.declared.primitives.Primitive.TheVariants as prim
+use Rattle.source_model.specs.Names.{text_named}
 use Rattle.source_model.specs.State.{State, silent}
 use Rattle.plain_words.specs.Going.{Goes}
 use Rattle.plain_runs.specs.Host.{Host}
 use Rattle.plain_runs.specs.Course.{with_machine}
+use Rattle.plain_prims.specs.Rows.{primitive_of}
 use Rattle.plain_stretches.specs.Gate.{gated_run}
-use Rattle.plain_turns.specs.Asking.{count}
+use Rattle.plain_turns.specs.Asking.{count, node_here}
 use Rattle.plain_turns.specs.Events.{Serves, Reaches}
+use Rattle.plain_turns.specs.Primitives.{Says}
 use Rattle.plain_turns.specs.Resting.{IsGoing, IsAtTrap, HasRun}
 use Rattle.plain_turns.specs.Rooms.{unmade}
 use Rattle.plain_turns.specs.Turns.{StepsOn, BeginsAgain}
@@ -52,6 +59,28 @@ pub record Served (l : Language) (trap : ℕ) (h to : Host) (target : ℕ) (old 
   pub takes : Takes old new said
   pub turned : (from : State) (out : List ℕ) → IsSpoken l from → IsAtTrap h trap from target out → Turned h to from target (out ++ said) t
 
+-- A service was done that prints nothing and makes no object.
+pub record Quiet (l : Language) (trap : ℕ) (h to : Host) (target : ℕ) (t : Turn) : Type 0 where
+  pub served : (taken : Option (List ℕ)) → Served l trap h to target taken taken t
+  pub objects : to.next ≡ h.next
+
+-- The node at whose trap the machine stands is that of this primitive, without a handler.
+pub record IsKnown (l : Language) (h : Host) (p : Primitive) (args : ℕ) : Type 0 where
+  pub name : Name
+  pub implied : Bool
+  pub node_is : node_here h ≡ Some (nodes.Prim name args implied false)
+  pub is : primitive_of (text_named l.names name.0) args ≡ Some p
+
+abbrev pub is_printing : Primitive → Bool
+is_printing prim.StringPrint = true
+is_printing prim.IntPrint = true
+is_printing _ = false
+
+-- what is written for one: what it prints, or nothing
+abbrev pub Writes : Bool → Host → Primitive → List ℕ → Type 0
+Writes true h p line = Says h p line
+Writes false h p line = line ≡ []
+
 -- The sink took a front of what the run prints from there on.
 pub record Breaks (l : Language) (trap : ℕ) (h : Host) (target : ℕ) (old new : Option (List ℕ)) : Type 0 where
   pub said : List ℕ
@@ -84,3 +113,14 @@ pub record TurnsOn (l : Language) (trap : ℕ) (h to : Host) (target : ℕ) (old
 abbrev pub still : ℕ → Host → Option ℕ → ℕ
 still target h (Some trap) = suc (far target h)
 still target h None = 0
+
+-- From wherever a run goes on there, it has ended, and the sink took what was printed; or it broke off, and a front was taken.
+pub record Ran (l : Language) (h to : Host) (target : ℕ) (old new : Option (List ℕ)) : Type 0 where
+  pub said : List ℕ
+  pub takes : Takes old new said
+  pub ran : (from : State) (out : List ℕ) → IsSpoken l from → IsGoing h from target out → HasRun to from target (out ++ said)
+
+pub record Broken (l : Language) (h : Host) (target : ℕ) (old new : Option (List ℕ)) : Type 0 where
+  pub said : List ℕ
+  pub takes : Takes old new said
+  pub front : (from : State) (out : List ℕ) → IsSpoken l from → IsGoing h from target out → (rest : List ℕ) × ((gated_run (target - from.steps) (silent from)).out ≡ out ++ said ++ rest)

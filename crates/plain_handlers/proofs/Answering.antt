@@ -87,6 +87,8 @@ data_answers_messages z h s b n node args name met r mt q f can goal cost word f
       goes = to.goes;
       hosted = to.hosted;
       goal = to.goal;
+      left = to.left;
+      paid = to.paid;
       body = b;
       number = n + 1;
       next = to.next;
@@ -152,6 +154,8 @@ assignments_answer_messages z h s b n node args name met r mt q f can holder pla
       goes = to.goes;
       hosted = to.hosted;
       goal = to.goal;
+      left = to.left;
+      paid = to.paid;
       body = b;
       number = n + 1;
       next = to.next;

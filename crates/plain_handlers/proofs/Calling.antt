@@ -224,6 +224,8 @@ methods_answer_messages z h s b n node args name met r mt q stood can o c holder
       goes = g.goes;
       hosted = hosted_as steps sum h2 g.hosted;
       goal = g.goal;
+      left = g.left;
+      paid = omega (arith, g.top, g.cost);
       body = c.0;
       number = 0;
       next = g.next;

@@ -223,6 +223,24 @@ impl Hosting {
         }
     }
 
+    /// The reference to an object by which units know it, by its number; none past the last.
+    pub fn reference(&self, object: u32) -> Option<u32>
+        ensures { result ≡ slice_get (host self.now).references.objects object }
+    {
+        self.references
+            .objects
+            .as_slice()
+            .get(object as usize)
+            .copied()
+    }
+
+    /// That to `nil`.
+    pub fn nil(&self) -> u32
+        ensures { result ≡ (host self.now).references.nil }
+    {
+        self.references.nil
+    }
+
     /// The next object's number.
     pub fn next(&self) -> u32
         ensures { result ≡ (host self.now).next }

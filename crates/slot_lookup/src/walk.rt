@@ -47,6 +47,13 @@ impl Walk {
         })
     }
 
+    /// How many objects it has room for.
+    pub fn room(&self) -> usize
+        ensures { result ≡ self.now }
+    {
+        self.seen.len()
+    }
+
     // What is met from the parents of a value, where `skip` counts as visited.
     pub(crate) fn from_parents_of(
         &mut self,

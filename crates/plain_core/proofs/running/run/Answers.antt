@@ -1,16 +1,23 @@
-use Rattle.std.proofs.Common.{◌+◌}
+use Rattle.std.proofs.Common.{◌+◌, refl, ◌∙◌, ap}
 use Rattle.plain_host.specs.Hosted.{host}
-use Rattle.plain_core.proofs.Rounds.{starts, has_run}
-use Rattle.plain_core.proofs.Leading.{run_leads}
+use Rattle.plain_runs.specs.Host.{Host}
+use Rattle.plain_core.proofs.Keeping.{known_keeps, reaches_keep}
+use Rattle.plain_core.proofs.Rounds.{can_go, has_run, has_broken}
 use Rattle.plain_core.proofs.running.run.Goals as goal
 
 pub run_to-requires-clause-at : goal.run_to-requires-clause-at
-run_to-requires-clause-at c = (c.requires.rests.state, starts (host c.args.hosting.now) (host c.go_back.new.self) c.args.steps _ c.steps.result c.requires.rests c.go_back.ensures c.steps.ensures c.requires.few c.requires.rests.state c.requires.rests.rests)
+run_to-requires-clause-at g c = can_go c.args.language.now (host c.args.hosting.now) (host c.go_back.new.self) c.args.steps _ c.steps.result c.requires.rests c.go_back.ensures ? c.steps.ensures c.requires.few
+
+pub run_to-requires-clause-core : goal.run_to-requires-clause-core
+run_to-requires-clause-core g c = known_keeps (host c.args.hosting.now) (host c.go_back.new.self) c.args.language.now.core (ap (λ (y : Host). y.references) c.go_back.ensures) c.requires.known
 
 pub returns-clause-ran : goal.returns-clause-ran
-returns-clause-ran c =
-    has_run (host c.args.hosting.now) (host c.go_back.new.self) (host c.run_to.new.hosting) c.args.walk.now c.args.steps _ c.steps.result c.in_ok-taken.taken c.requires.rests c.go_back.ensures c.steps.ensures c.requires.few c.in_ok-taken.ensures.runs c.in_ok-taken.ensures.reached
+returns-clause-ran g c =
+    has_run c.args.language.now (host c.args.hosting.now) (host c.go_back.new.self) (host c.run_to.new.hosting) c.args.steps _ c.steps.result c.in_ok-taken.taken (g.K.Sink.taken c.args.out.now) (g.K.Sink.taken c.run_to.new.out) c.requires.rests c.go_back.ensures ? c.steps.ensures c.requires.few c.in_ok-taken.ensures.runs c.in_ok-taken.ensures.reached
 
-pub returns-clause-led : goal.returns-clause-led
-returns-clause-led c =
-    run_leads c.args.walk.now c.args.steps (record { instructions = c.in_ok-taken.taken.instructions; services = c.in_ok-taken.taken.services + 1 }) (host c.args.hosting.now) (host c.run_to.new.hosting) (returns-clause-ran c)
+pub returns-clause-same : goal.returns-clause-same
+returns-clause-same g c = reaches_keep (host c.go_back.new.self) (host c.run_to.new.hosting) c.in_ok-taken.taken.instructions c.in_ok-taken.taken.services c.in_ok-taken.ensures.reached ∙ ap (λ (y : Host). y.references) c.go_back.ensures
+
+pub err-taken-clause-broken : goal.err-taken-clause-broken
+err-taken-clause-broken g c =
+    has_broken c.args.language.now (host c.args.hosting.now) (host c.go_back.new.self) c.args.steps _ c.steps.result (g.K.Sink.taken c.args.out.now) (g.K.Sink.taken c.run_to.new.out) c.requires.rests c.go_back.ensures ? c.steps.ensures c.requires.few c.in_err-taken.ensures.broken

@@ -1,49 +1,75 @@
-use Rattle.std.proofs.Common.{refl, ◌∙◌, arith}
+use Rattle.std.proofs.Common.{ℕ, ◌+◌, List, [], ◌++◌, refl, ◌∙◌, arith}
 use Rattle.plain_host.specs.Hosted.{host}
-use Rattle.plain_core.proofs.Rounds.{none_at, at_trap, goes_reached, still_room, on_reached, few_turns, one_less, still_at}
+use Rattle.plain_core.proofs.Fronts.{takes_none, takes_more}
+use Rattle.plain_core.proofs.Joining.{joined}
+use Rattle.plain_core.proofs.Keeping.{reaches_keep, went_keep, known_keeps}
+use Rattle.plain_core.proofs.Rounds.{none_at, at_trap, next_none, next_more, goes_reached, still_room, few_turns, one_less, still_at, broken_on}
 use Rattle.plain_core.proofs.running.run_to.Goals as goal
 
 pub loop-at-init : goal.loop-at-init
-loop-at-init c =
-    let came = (c.go-first.ensures.came c.requires.at.0 c.requires.at.1).at in
-    let turns = few_turns (host c.go-first.new.hosting) c.go-first.result.trap c.requires.at.0 c.args.target came in
-    let few = c.go-first.ensures.few in
+loop-at-init g c =
+    let first = c.go-first.ensures in
+    let came = (first.came c.requires.at.from c.requires.at.out c.requires.at.going).at in
+    let turns = few_turns (host c.go-first.new.hosting) c.go-first.result.trap c.requires.at.from c.args.target c.requires.at.out came in
+    let few = first.few in
     record {
-      same = refl;
-      room = still_room (host c.args.hosting.now) (host c.go-first.new.hosting) c.args.walk.now c.go-first.result.instructions c.go-first.ensures.went c.requires.room;
-      stands = (c.requires.at.0, came);
-      at = λ from g. (c.go-first.ensures.came from g).at;
-      reached = goes_reached c.args.walk.now (host c.args.hosting.now) (host c.go-first.new.hosting) c.go-first.result.instructions c.go-first.ensures.went;
+      grown = omega arith;
+      room = still_room (host c.args.hosting.now) (host c.go-first.new.hosting) c.args.walk.now c.go-first.result.instructions first.went c.requires.room;
+      same = went_keep (host c.args.hosting.now) (host c.go-first.new.hosting) c.go-first.result.instructions first.went;
+      stands = (c.requires.at.from, (c.requires.at.spoken, (c.requires.at.out, came)));
+      said = ([], (takes_none (g.K.Sink.taken c.args.out.now), λ from out spoken x. next_none (host c.go-first.new.hosting) from c.args.target out _ (first.came from out x).at));
+      reached = goes_reached (host c.args.hosting.now) (host c.go-first.new.hosting) c.go-first.result.instructions first.went;
       served = omega (arith, turns);
       taken = omega (arith, turns, few);
+      later = omega arith;
     }
 
+pub take_turn-requires-clause-at : goal.take_turn-requires-clause-at
+take_turn-requires-clause-at g c =
+    let s = c.loop-at.invariant.stands in
+    record { from = s.0; spoken = s.1.0; out = s.1.1.0; at = at_trap (host c.loop-at.hosting) s.0 c.args.target s.1.1.0 c.in-Some.trap c.loop-at.at c.in-Some.is s.1.1.1 }
+
+pub take_turn-requires-clause-core : goal.take_turn-requires-clause-core
+take_turn-requires-clause-core g c = known_keeps (host c.args.hosting.now) (host c.loop-at.hosting) c.args.language.now.core c.loop-at.invariant.same c.requires.core
+
 pub loop-at-preserved : goal.loop-at-preserved
-loop-at-preserved c =
+loop-at-preserved g c =
     let inv = c.loop-at.invariant in
     let on = c.in_ok-turn.ensures.on in
-    let same = c.take_turn.ensures.same in
     let turn = c.in_ok-turn.turn in
     let less = one_less c.args.target (host c.loop-at.hosting) (host c.take_turn.new.hosting) turn.next on.less in
     let here = still_at c.args.target (host c.loop-at.hosting) c.loop-at.at c.in-Some.trap c.in-Some.is in
     let served = inv.served in
     let taken = inv.taken in
     let few = on.few in
+    let s = inv.stands in
+    let grown = inv.grown in
+    let grows = c.take_turn.ensures.grown in
+    let later = inv.later in
+    let later_on = c.take_turn.ensures.later in
     record {
-      same = same ∙ inv.same;
-      room = omega (arith, same, on.objects, inv.room);
-      stands = (inv.stands.0, on.at inv.stands.0 (at_trap (host c.loop-at.hosting) inv.stands.0 c.args.target c.in-Some.trap c.loop-at.at c.in-Some.is inv.stands.1));
-      at = λ from g. on.at from (at_trap (host c.loop-at.hosting) from c.args.target c.in-Some.trap c.loop-at.at c.in-Some.is (inv.at from g));
-      reached = on_reached c.args.walk.now c.loop-at.walk (host c.args.hosting.now) (host c.loop-at.hosting) (host c.take_turn.new.hosting) c.loop-at.instructions c.loop-at.services turn.instructions 1 inv.same inv.reached on.reached;
+      grown = omega (arith, grown, grows);
+      room = c.in_ok-turn.ensures.roomy;
+      same = reaches_keep (host c.loop-at.hosting) (host c.take_turn.new.hosting) turn.instructions 1 on.reached ∙ inv.same;
+      stands = (s.0, (s.1.0, (s.1.1.0 ++ on.said, on.at s.0 s.1.1.0 s.1.0 (at_trap (host c.loop-at.hosting) s.0 c.args.target s.1.1.0 c.in-Some.trap c.loop-at.at c.in-Some.is s.1.1.1))));
+      said = (inv.said.0 ++ on.said, (takes_more (g.K.Sink.taken c.args.out.now) (g.K.Sink.taken c.loop-at.out) (g.K.Sink.taken c.take_turn.new.out) inv.said.0 on.said inv.said.1.0 on.takes,
+          λ from out spoken x. next_more (host c.take_turn.new.hosting) from c.args.target out inv.said.0 on.said turn.next (on.at from (out ++ inv.said.0) spoken (at_trap (host c.loop-at.hosting) from c.args.target (out ++ inv.said.0) c.in-Some.trap c.loop-at.at c.in-Some.is (inv.said.1.1 from out spoken x)))));
+      reached = joined (host c.args.hosting.now) (host c.loop-at.hosting) (host c.take_turn.new.hosting) c.loop-at.instructions c.loop-at.services turn.instructions 1 inv.reached on.reached;
       served = omega (arith, served, less, here);
       taken = omega (arith, taken, less, here, few);
+      later = omega (arith, later, later_on);
     }
 
 pub returns-clause-runs : goal.returns-clause-runs
-returns-clause-runs c = λ from g. none_at (host c.loop-at.hosting) from c.args.target c.loop-at.at c.in_default.is (c.loop-at.invariant.at from g)
+returns-clause-runs g c =
+    let inv = c.loop-at.invariant in
+    record {
+      said = inv.said.0;
+      takes = inv.said.1.0;
+      ran = λ from out spoken x. none_at (host c.loop-at.hosting) from c.args.target (out ++ inv.said.0) c.loop-at.at c.in_default.is (inv.said.1.1 from out spoken x);
+    }
 
-pub returns-clause-roomy : goal.returns-clause-roomy
-returns-clause-roomy c =
-    let same = c.loop-at.invariant.same in
-    let room = c.loop-at.invariant.room in
-    omega (arith, same, room)
+pub err-turn-clause-broken : goal.err-turn-clause-broken
+err-turn-clause-broken g c =
+    let inv = c.loop-at.invariant in
+    broken_on c.args.language.now (host c.args.hosting.now) (host c.loop-at.hosting) c.in-Some.trap c.args.target c.loop-at.at (g.K.Sink.taken c.args.out.now) (g.K.Sink.taken c.loop-at.out) (g.K.Sink.taken c.take_turn.new.out) inv.said.0 inv.said.1.0 inv.said.1.1 c.in-Some.is c.in_err-turn.ensures.broken

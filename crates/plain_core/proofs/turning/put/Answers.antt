@@ -5,21 +5,24 @@ use Rattle.plain_core.proofs.Serving.{asked, method_there, unit_fits, back_is, i
 use Rattle.plain_core.proofs.turning.put.Goals as goal
 
 pub back_of-back-requires : goal.back_of-back-requires
-back_of-back-requires c = record { asked = asked _ _ _ c.requires.at c.requires.room }
+back_of-back-requires c = record { asked = asked _ _ _ _ c.requires.at c.requires.room }
 
 pub put_unit-requires-clause-given : goal.put_unit-requires-clause-given
-put_unit-requires-clause-given c = (method_there _ _ _ _ _ c.requires.at c.requires.room c.requires.found).0
+put_unit-requires-clause-given c = (method_there _ _ _ _ c.requires.at c.requires.room _ _ c.requires.found).body.0
 
 pub put_unit-requires-clause-within : goal.put_unit-requires-clause-within
-put_unit-requires-clause-within c = (method_there _ _ _ _ _ c.requires.at c.requires.room c.requires.found).1
+put_unit-requires-clause-within c = (method_there _ _ _ _ c.requires.at c.requires.room _ _ c.requires.found).body.1
+
+pub put_unit-requires-clause-translates : goal.put_unit-requires-clause-translates
+put_unit-requires-clause-translates c = (method_there _ _ _ _ c.requires.at c.requires.room _ _ c.requires.found).translates
 
 pub put_unit-requires-clause-room : goal.put_unit-requires-clause-room
-put_unit-requires-clause-room c = unit_fits (host c.args.hosting.now) (host c.args.hosting.now) c.args.target c.args.walk.now c.args._holder c.args.body c.requires.at c.requires.room c.requires.found c.requires.none c.requires.plain
+put_unit-requires-clause-room c = unit_fits _ (host c.args.hosting.now) (host c.args.hosting.now) c.args.target c.args.walk.now c.args._holder c.args.body c.requires.at c.requires.room c.requires.found c.requires.none
 
 pub go_back-requires-clause-within : goal.go_back-requires-clause-within
 go_back-requires-clause-within c =
-    let a = asked (host c.args.hosting.now) c.args.target c.args.walk.now c.requires.at c.requires.room in
-    let b = back_is (host c.args.hosting.now) c.args.target c.args.walk.now c.back_of-back.result c.requires.at c.requires.room c.back_of-back.ensures in
+    let a = asked _ (host c.args.hosting.now) c.args.target c.args.walk.now c.requires.at c.requires.room in
+    let b = back_is _ (host c.args.hosting.now) c.args.target c.args.walk.now c.back_of-back.result c.requires.at c.requires.room c.back_of-back.ensures in
     let same = ap (λ (y : Host). y.machine.pc) c.in_ok-put_unit.ensures.unit in
     omega (arith, a.back, b, same)
 
@@ -27,5 +30,5 @@ pub returns : goal.returns
 returns c =
     let h = host c.args.hosting.now in
     let mid = host c.put_unit.new.self in
-    let put = is_put h mid c.args.target c.args.walk.now c.args._holder c.args.body c.requires.at c.requires.room c.requires.found c.requires.none c.requires.plain c.in_ok-put_unit.ensures.unit c.in_ok-put_unit.ensures.code c.in_ok-put_unit.ensures.apart c.is_whole.ensures.machine in
-    unit_put h mid c.args.target c.args.walk.now c.args._holder c.args.body c.requires.at c.requires.room c.requires.found c.requires.none c.requires.plain (host c.go_back.new.self) c.left-goal.result c.cost_left-cost.result c.back_of-back.result c.go_back.ensures c.left-goal.ensures c.back_of-back.ensures c.in_ok-put_unit.ensures.unit put
+    let put = is_put _ h mid c.args.target c.args.walk.now c.args._holder c.args.body c.requires.at c.requires.room c.requires.found c.requires.none c.in_ok-put_unit.ensures.unit c.in_ok-put_unit.ensures.code c.in_ok-put_unit.ensures.apart c.is_whole.ensures.machine in
+    unit_put _ h mid c.args.target c.args.walk.now c.args._holder c.args.body c.requires.at c.requires.room c.requires.found c.requires.none (host c.go_back.new.self) c.left-goal.result c.cost_left-cost.result c.back_of-back.result c.go_back.ensures c.left-goal.ensures c.cost_left-cost.ensures c.back_of-back.ensures c.in_ok-put_unit.ensures.unit put

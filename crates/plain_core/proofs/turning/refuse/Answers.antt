@@ -1,8 +1,5 @@
-use Rattle.plain_core.proofs.Serving.{told, refused}
+use Rattle.plain_core.proofs.Serving.{quiet_as, refusal_served}
 use Rattle.plain_core.proofs.turning.refuse.Goals as goal
 
-pub fail-requires-clause-running : goal.fail-requires-clause-running
-fail-requires-clause-running c = (told _ 1 _ c.requires.at).running
-
 pub returns : goal.returns
-returns c = refused c.args._holder c.args._body c.place_here-place.result c.fail.ensures c.place_here-place.ensures c.requires.at c.requires.room c.requires.found c.requires.blocks
+returns c = quiet_as _ _ _ _ _ _ _ _ c.fail.ensures.failed c.fail.ensures.ended (refusal_served _ _ _ _ c.requires.at c.requires.room _ _ c.requires.found _ _ c.requires.entry c.requires.there c.requires.refused)

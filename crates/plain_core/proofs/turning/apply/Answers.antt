@@ -1,0 +1,103 @@
+use Rattle.std.proofs.Common.{◌≡◌, ◌≤◌, ℕ, ◌+◌, ◌-◌, refl, ◌∙◌, ap, sym, subst, arith}
+use Rattle.prim_table.specs.declared.answers.PrimAnswer.TheVariants as answers
+use Rattle.plain_runs.specs.Host.{Host}
+use Rattle.plain_unwinds.specs.Services.{fails_unmarked}
+use Rattle.plain_turns.specs.Asking.{cost_left, place_here}
+use Rattle.plain_host.specs.Hosted.{host}
+use Rattle.plain_core.specs.Turning.{StandsAt}
+use Rattle.plain_core.specs.declared.turning.Turn.TheVariants as turns
+use Rattle.plain_core.proofs.Serving.{quiet_as}
+use Rattle.plain_core.proofs.Performing.{may, was_so, failed_same, failure_served, operand_after, says, performed_is, objects_after, answer_served, answer_breaks, answer_breaks_within}
+use Rattle.plain_core.proofs.turning.apply.Goals as goal
+
+pub apply_asked-applied-requires-clause-stands : goal.apply_asked-applied-requires-clause-stands
+apply_asked-applied-requires-clause-stands g c = (may _ (host c.args.hosting.now) _ c.requires.at c.args.prim c.args.args c.requires.known c.core_words-core.result c.core_words-core.ensures).apply c.args.words c.requires.costs c.requires.fits
+
+pub apply_asked-applied-requires-clause-few : goal.apply_asked-applied-requires-clause-few
+apply_asked-applied-requires-clause-few g c = (may _ (host c.args.hosting.now) _ c.requires.at c.args.prim c.args.args c.requires.known c.core_words-core.result c.core_words-core.ensures).few
+
+pub fail-requires-clause-at : goal.fail-requires-clause-at
+fail-requires-clause-at g c =
+    let l = c.args.language.now in
+    let h = host c.args.hosting.now in
+    let to = host c.apply_asked-applied.new.self in
+    let applied = c.apply_asked-applied.result in
+    let told = c.apply_asked-applied.ensures in
+    let core = c.core_words-core.result in
+    let was = was_so h c.args.prim c.args.args core to.machine.memory applied.heap applied.answer (answers.Fails c.in-Fails.error) c.in-Fails.is (record { answers = told.answer; outside = told.outside; within = c.is_whole.ensures.machine.memory_within }) in
+    subst (λ (y : Host). StandsAt l y 3 c.args.target) (sym (failed_same l h c.args.target c.requires.at c.args.prim c.args.args c.requires.known core c.core_words-core.ensures to applied.heap told.same c.in-Fails.error was)) c.requires.at
+
+pub write_line-requires : goal.write_line-requires
+write_line-requires g c =
+    let l = c.args.language.now in
+    let h = host c.args.hosting.now in
+    let to = host c.apply_asked-applied.new.self in
+    let applied = c.apply_asked-applied.result in
+    let told = c.apply_asked-applied.ensures in
+    let core = c.core_words-core.result in
+    let was = was_so h c.args.prim c.args.args core to.machine.memory applied.heap applied.answer (answers.Done c.in-Done.word) c.in-Done.is (record { answers = told.answer; outside = told.outside; within = c.is_whole.ensures.machine.memory_within }) in
+    operand_after l h c.args.target c.requires.at c.args.prim c.args.args c.requires.known core c.core_words-core.ensures to applied.heap told.same c.in-Done.word c.args.words was c.requires.costs c.requires.fits
+
+pub returns-in_err-write_line-in-Done-clause-broken : goal.returns-in_err-write_line-in-Done-clause-broken
+returns-in_err-write_line-in-Done-clause-broken g c =
+    let l = c.args.language.now in
+    let h = host c.args.hosting.now in
+    let to = host c.apply_asked-applied.new.self in
+    let applied = c.apply_asked-applied.result in
+    let told = c.apply_asked-applied.ensures in
+    let core = c.core_words-core.result in
+    let was = was_so h c.args.prim c.args.args core to.machine.memory applied.heap applied.answer (answers.Done c.in-Done.word) c.in-Done.is (record { answers = told.answer; outside = told.outside; within = c.is_whole.ensures.machine.memory_within }) in
+    let front = c.in_err-write_line-in-Done.ensures.front in
+    answer_breaks_within l h c.args.target c.requires.at c.args.prim c.args.args c.requires.known core c.core_words-core.ensures to applied.heap told.same c.in-Done.word c.args.words was c.requires.costs c.requires.fits (g.K.Sink.taken c.args.out.now) (g.K.Sink.taken c.write_line.new.out) front.0 (says l h c.args.target c.requires.at c.args.prim c.args.args c.requires.known core c.core_words-core.ensures to applied.heap told.same c.in-Done.word c.args.words was c.requires.costs c.requires.fits front.0 front.1.0) front.1.1
+
+pub make_room-requires : goal.make_room-requires
+make_room-requires g c =
+    let l = c.args.language.now in
+    let h = host c.args.hosting.now in
+    let to = host c.apply_asked-applied.new.self in
+    let applied = c.apply_asked-applied.result in
+    let told = c.apply_asked-applied.ensures in
+    let core = c.core_words-core.result in
+    let was = was_so h c.args.prim c.args.args core to.machine.memory applied.heap applied.answer (answers.Done c.in-Done.word) c.in-Done.is (record { answers = told.answer; outside = told.outside; within = c.is_whole.ensures.machine.memory_within }) in
+    let said = c.in_ok-write_line-in-Done.ensures.said in
+    let next = ap (λ (y : Host). y.next) c.perform.ensures in
+    let more = objects_after l h c.args.target c.requires.at c.args.prim c.args.args c.requires.known core c.core_words-core.ensures to applied.heap told.same c.in-Done.word c.args.words was c.requires.costs c.requires.fits said.0 (says l h c.args.target c.requires.at c.args.prim c.args.args c.requires.known core c.core_words-core.ensures to applied.heap told.same c.in-Done.word c.args.words was c.requires.costs c.requires.fits said.0 said.1.0) in
+    let few = (may l h c.args.target c.requires.at c.args.prim c.args.args c.requires.known core c.core_words-core.ensures).few in
+    omega (arith, c.next.ensures, next, more, few)
+
+pub returns-in_err-make_room-in-Done-clause-broken : goal.returns-in_err-make_room-in-Done-clause-broken
+returns-in_err-make_room-in-Done-clause-broken g c =
+    let l = c.args.language.now in
+    let h = host c.args.hosting.now in
+    let to = host c.apply_asked-applied.new.self in
+    let applied = c.apply_asked-applied.result in
+    let told = c.apply_asked-applied.ensures in
+    let core = c.core_words-core.result in
+    let was = was_so h c.args.prim c.args.args core to.machine.memory applied.heap applied.answer (answers.Done c.in-Done.word) c.in-Done.is (record { answers = told.answer; outside = told.outside; within = c.is_whole.ensures.machine.memory_within }) in
+    let said = c.in_ok-write_line-in-Done.ensures.said in
+    answer_breaks l h c.args.target c.requires.at c.args.prim c.args.args c.requires.known core c.core_words-core.ensures to applied.heap told.same c.in-Done.word c.args.words was c.requires.costs c.requires.fits (g.K.Sink.taken c.args.out.now) (g.K.Sink.taken c.write_line.new.out) said.0 (says l h c.args.target c.requires.at c.args.prim c.args.args c.requires.known core c.core_words-core.ensures to applied.heap told.same c.in-Done.word c.args.words was c.requires.costs c.requires.fits said.0 said.1.0) said.1.1
+
+pub returns-in-Fails-clause-served : goal.returns-in-Fails-clause-served
+returns-in-Fails-clause-served g c =
+    let l = c.args.language.now in
+    let h = host c.args.hosting.now in
+    let to = host c.apply_asked-applied.new.self in
+    let applied = c.apply_asked-applied.result in
+    let told = c.apply_asked-applied.ensures in
+    let core = c.core_words-core.result in
+    let was = was_so h c.args.prim c.args.args core to.machine.memory applied.heap applied.answer (answers.Fails c.in-Fails.error) c.in-Fails.is (record { answers = told.answer; outside = told.outside; within = c.is_whole.ensures.machine.memory_within }) in
+    let same = failed_same l h c.args.target c.requires.at c.args.prim c.args.args c.requires.known core c.core_words-core.ensures to applied.heap told.same c.in-Fails.error was in
+    (quiet_as l 3 h (fails_unmarked 0 (cost_left h) c.in-Fails.error (place_here h) h) (host c.fail.new.hosting) c.args.target turns.Ended c.fail.result (c.fail.ensures.failed ∙ ap (λ (y : Host). fails_unmarked 0 (cost_left y) c.in-Fails.error (place_here y) y) same) c.fail.ensures.ended (failure_served l h c.args.target c.requires.at c.args.prim c.args.args c.requires.known core c.core_words-core.ensures to applied.heap told.same c.in-Fails.error was)).served (g.K.Sink.taken c.args.out.now)
+
+pub returns-in_ok-make_room-in-Done-clause-served : goal.returns-in_ok-make_room-in-Done-clause-served
+returns-in_ok-make_room-in-Done-clause-served g c =
+    let l = c.args.language.now in
+    let h = host c.args.hosting.now in
+    let to = host c.apply_asked-applied.new.self in
+    let applied = c.apply_asked-applied.result in
+    let told = c.apply_asked-applied.ensures in
+    let core = c.core_words-core.result in
+    let was = was_so h c.args.prim c.args.args core to.machine.memory applied.heap applied.answer (answers.Done c.in-Done.word) c.in-Done.is (record { answers = told.answer; outside = told.outside; within = c.is_whole.ensures.machine.memory_within }) in
+    let said = c.in_ok-write_line-in-Done.ensures.said in
+    let after = host c.perform.new.self in
+    answer_served l h c.args.target c.requires.at c.args.prim c.args.args c.requires.known core c.core_words-core.ensures to applied.heap told.same c.in-Done.word c.args.words was c.requires.costs c.requires.fits after (g.K.Sink.taken c.args.out.now) (g.K.Sink.taken c.write_line.new.out) said.0 (performed_is l h c.args.target c.requires.at c.args.prim c.args.args c.requires.known core c.core_words-core.ensures to applied.heap told.same c.in-Done.word c.args.words was c.requires.costs c.requires.fits after (c.left-goal.result - 1) (c.cost_left-cost.result - c.args.words) c.perform.ensures (ap (λ (k : ℕ). k - 1) c.left-goal.ensures) (ap (λ (k : ℕ). k - c.args.words) c.cost_left-cost.ensures)) (says l h c.args.target c.requires.at c.args.prim c.args.args c.requires.known core c.core_words-core.ensures to applied.heap told.same c.in-Done.word c.args.words was c.requires.costs c.requires.fits said.0 said.1.0) said.1.1

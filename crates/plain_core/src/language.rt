@@ -1,0 +1,118 @@
+//! What the host knows of the language in a session: its names, which of them are those of primitives, and the objects that the language itself knows.
+ghost use Rattle.std.specs.Prelude.{◌≡◌, map, IfOk};
+ghost use Rattle.source_model.specs.Names.{text_named};
+ghost use Rattle.prim_table.specs.Kinds.{args_of, kind_of};
+ghost use Rattle.prim_table.specs.Named.{prim_named};
+ghost use Rattle.plain_prims.specs.Rows.{primitive_of, taking};
+
+use prim_table::prim_of;
+use self_terms::{Name, Names, OutOfMemory};
+use source_model::{Core, Primitive};
+use std::alloc::{AllocError, Global};
+use std::marker::Model;
+
+// No session has more names.
+const MOST_NAMES: usize = 1 << 30;
+
+/// The names of a session and the objects that the language knows; and for each name its primitive, where it has one.
+#[derive(Drop)]
+pub struct Language {
+    names: Names,
+    core: Core,
+    rows: Vec<Option<Primitive>>,
+}
+
+impl Model for Language {
+    ghost use Rattle.std.specs.Prelude.{◌≡◌, map};
+    ghost use Rattle.prim_table.specs.Named.{prim_named};
+    ghost use Rattle.plain_core.specs.Language.{Language as Known};
+
+    ghost Value = { Known };
+
+    ghost view = { λ l. record { names = l.names; core = l.core } };
+
+    ghost invariant = { λ l. l.rows.items ≡ map prim_named l.names };
+}
+
+// How many arguments a primitive takes.
+fn args_of(prim: Primitive) -> u8
+    ensures { result ≡ args_of (kind_of prim) }
+{
+    match prim {
+        Primitive::AtPut => 2,
+        Primitive::Clone => 0,
+        Primitive::VectorNew => 0,
+        Primitive::Size => 0,
+        Primitive::StringPrint => 0,
+        Primitive::IntPrint => 0,
+        _ => 1,
+    }
+}
+
+// A primitive, where it takes so many arguments.
+fn taking(args: u8, prim: Option<Primitive>) -> Option<Primitive>
+    ensures { result ≡ taking args prim }
+{
+    match prim {
+        None => None,
+        Some(prim) => {
+            if args_of(prim) == args {
+                Some(prim)
+            } else {
+                None
+            }
+        }
+    }
+}
+
+// The primitives of names.
+fn rows_of(alloc: Global, names: &Names) -> Result<Vec<Option<Primitive>>, OutOfMemory>
+    ensures { IfOk result (λ rows. rows.items ≡ map prim_named names.now) }
+{
+    let count = names.len();
+    if count > MOST_NAMES {
+        return Err(AllocError);
+    }
+    let mut rows = Vec::with_capacity(alloc, count)?;
+    for at in 0..count {
+        rows.push_reserved(prim_of(names, Name(at as u32 + 1)));
+    }
+    Ok(rows)
+}
+
+impl Language {
+    /// The language of a session with these names, which knows these objects.
+    pub fn open(alloc: Global, names: Names, core: Core) -> Result<Language, OutOfMemory>
+        ensures { IfOk result (λ l. l ≡ record { names = names; core = core }) }
+    {
+        let rows = rows_of(alloc, &names)?;
+        Ok(Language { names, core, rows })
+    }
+
+    /// The names.
+    pub fn names(&self) -> &Names
+        ensures { result.now ≡ self.now.names }
+    {
+        &self.names
+    }
+
+    /// The objects that the language knows.
+    pub fn core(&self) -> Core
+        ensures { result ≡ self.now.core }
+    {
+        self.core
+    }
+
+    /// The primitive of a name with so many arguments.
+    pub fn primitive(&self, name: Name, args: u8) -> Option<Primitive>
+        ensures { result ≡ primitive_of (text_named self.now.names name.0) args }
+    {
+        if name.0 == 0 {
+            return None;
+        }
+        match self.rows.get(name.0 as usize - 1) {
+            None => None,
+            Some(prim) => taking(args, *prim),
+        }
+    }
+}
