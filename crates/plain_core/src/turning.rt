@@ -919,7 +919,3 @@ pub(crate) fn take_turn<K: Sink>(
         }),
     }
 }
-
-pub(crate) fn is_blockless(body: &Body) -> bool {
-    body.outer.is_none() && !owns_context(body)
-}
