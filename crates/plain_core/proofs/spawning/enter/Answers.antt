@@ -1,3 +1,4 @@
+use Rattle.std.proofs.Common.{◌∙◌, sym}
 use Rattle.plain_host.specs.Hosted.{host}
 use Rattle.plain_core.specs.Leading.{Stays}
 use Rattle.plain_core.proofs.Births.{is_found, sums_within, unpaid}
@@ -14,3 +15,10 @@ is_costly-requires-clause-translates c = (is_found (host c.args.hosting.now) c.r
 
 pub is_costly-requires-clause-sums : goal.is_costly-requires-clause-sums
 is_costly-requires-clause-sums c = sums_within (host c.args.hosting.now) c.requires.rests.0 c.requires.rests.1
+
+pub returns-then-is_costly-clause-born : goal.returns-then-is_costly-clause-born
+returns-then-is_costly-clause-born c =
+    unpaid (host c.args.hosting.now) c.args.name.0 c.args.lobby c.args.walk.now c.requires.lobby c.requires.room c.requires.few c.args.holder c.args.body c.requires.found (sym c.is_costly.ensures ∙ c.if-is_costly.true)
+
+pub returns-then-is_costly-clause-led : goal.returns-then-is_costly-clause-led
+returns-then-is_costly-clause-led c = Stays
