@@ -140,7 +140,7 @@ class Body:
     def __init__(self, at, outer, name):
         self.at, self.outer, self.name, self.number = at, outer, name, None
         self.args, self.locals, self.inits, self.assignable = 0, [], [], []
-        self.nodes, self.places, self.has_block = [], [], False
+        self.nodes, self.places, self.has_block, self.object_alone = [], [], False, False
 
 
 class Nil:
@@ -202,13 +202,15 @@ class Reader:
             body.assignable.insert(body.args, False)
             body.args += 1
         elif first.kind == "name":
-            self.name_slot(owner, body, names, first)
+            self.name_slot(owner, body, names, first, is_object)
         elif first.kind in ("op", "key") and not first.text.startswith("_") and is_object:
+            if body:
+                body.object_alone = True
             self.message_slot(owner, names, first)
         else:
             self.bad()
 
-    def name_slot(self, owner, body, names, first):
+    def name_slot(self, owner, body, names, first, is_object):
         name = first.text
         if name in ("self", "resend"):
             self.bad()
@@ -217,12 +219,14 @@ class Reader:
         kind, value = "field", NIL
         if self.sees("op", "="):
             self.tokens.next()
+            if not is_object and self.sees("("):
+                self.bad()
             kind, value = "const", self.contents(name, [], True, first)
         elif self.sees("op", "<-"):
             self.tokens.next()
             self.fresh(names, name + ":", first)
             value = self.contents(name, [], False, first)
-        elif self.sees("op", "*"):
+        elif self.sees("op", "*") and is_object:
             self.tokens.next()
             self.take("op", "=")
             kind, value = "parent", self.contents(name, [], False, first)
@@ -231,6 +235,8 @@ class Reader:
         if isinstance(value, Body):
             kind = "method"
         if body:
+            is_held = not isinstance(value, Body) and (not isinstance(value, Obj) or value.kind == "string")
+            body.object_alone = body.object_alone or kind == "parent" or not is_held
             body.locals.append(name)
             body.inits.append(value)
             body.assignable.append(kind == "field")
@@ -280,8 +286,6 @@ class Reader:
             self.tokens.next()
             self.slot_list(made, body, ("|",), True)
             self.take("|")
-        elif self.sees(")") and not args and not count:
-            pass
         if self.sees(")") and not count:
             if body.args:
                 self.bad()
@@ -289,8 +293,10 @@ class Reader:
             self.objects.append(made)
             self.size += 1
             return made
-        if body.args != count or not may_code:
-            self.bad(first if may_code else None)
+        if body.args != count:
+            self.bad(first)
+        if not may_code or body.object_alone:
+            self.bad()
         self.bodies.append(body)
         self.code(body, ")")
         return body
@@ -945,7 +951,8 @@ def tables(text):
     """The tables of a file: constants that are texts of rows."""
     for name, raw in re.findall(r'const ([A-Z]+): &str = "((?:[^"\\]|\\.)*)"', text, re.S):
         raw = re.sub(r"\\\n[ \t\n]*", "", raw)
-        yield name, re.sub(r"\\(.)", lambda m: {"n": "\n", "t": "\t", "r": "\r"}.get(m.group(1), m.group(1)), raw)
+        yield name, re.sub(r"\\(x[0-9a-f]{2}|.)", lambda m: chr(int(m.group(1)[1:], 16)) if len(m.group(1)) > 1 else
+                           {"n": "\n", "t": "\t", "r": "\r"}.get(m.group(1), m.group(1)), raw)
 
 
 def transcript(core, row):
