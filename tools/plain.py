@@ -512,8 +512,8 @@ class World:
             body.inits = [self.held(value) for value in body.inits]
 
     def held(self, value):
-        return self.core["nil"] if value is NIL else value[1] if isinstance(value, list) and value[1] is not NIL else \
-            self.core["nil"] if isinstance(value, list) else value
+        value = value[1] if isinstance(value, list) else value
+        return self.core["nil"] if value is NIL else value
 
     def there(self, owner, kind, name, value, token):
         value = value[1] if isinstance(value, list) else value
@@ -956,11 +956,13 @@ def tables(text):
 
 
 def transcript(core, row):
-    """What a row's world and script come to: the text, and the status."""
+    """The fields of a row, and the lines and the status that its world and script come to. A check has no script."""
     fields, lines = row.replace("~", "\n").split(";"), []
     if len(fields) == 3:
-        return fields, "", answer_of("check", core + fields[0].encode(), None, lines.append), lines
-    return fields, "", answer_of("run", core + fields[0].encode(), fields[1].encode, lines.append), lines
+        status = answer_of("check", core + fields[0].encode(), None, lines.append)
+    else:
+        status = answer_of("run", core + fields[0].encode(), fields[1].encode, lines.append)
+    return fields, lines, status
 
 
 def rows(core, files):
@@ -971,7 +973,7 @@ def rows(core, files):
                 if row.count(";") not in (2, 3) or "notBuilt" in row or "not built" in row:
                     left += 1
                     continue
-                fields, _, status, lines = transcript(core, row)
+                fields, lines, status = transcript(core, row)
                 text = "".join(line + "\n" for line in lines)
                 total += 1
                 if (text, str(status)) != (fields[-2], fields[-1]):

@@ -6,7 +6,7 @@ use io_ports::{MemFiles, MemSink, MemSource, NamedFile};
 use self_debugger::selfdb;
 use std::alloc::{AllocError, Global};
 
-/// The core text, nine lines, as in `rows`.
+// The core text, nine lines, as in `rows`.
 const CORE_TEXT: &[u8] = b"lobby = lobby. nil = ().\n\
 true = ( | parent* = lobby. ifTrue: a False: b = ( a value ) | ).\n\
 false = ( | parent* = lobby. ifTrue: a False: b = ( b value ) | ).\n\
