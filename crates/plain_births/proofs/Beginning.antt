@@ -43,7 +43,7 @@ parks_keep h None r = r
 parks_keep h (Some (Waiting sp pc n)) r = record {
   fit = r.fit;
   room = record { each = r.room.each; left = r.room.left; lobby = r.room.lobby };
-  maps = record { few = r.maps.few; contexts = r.maps.contexts; blocks = r.maps.blocks };
+  maps = record { few = r.maps.few; bodies = r.maps.bodies; contexts = r.maps.contexts; blocks = r.maps.blocks };
 }
 parks_keep h (Some (Answered w)) r = r
 parks_keep h (Some (Failed e p)) r = r
@@ -138,7 +138,7 @@ module _ (h : Host) (q : Reached) (text : List ℕ) (holder : ℕ) (c : BodyId) 
         (record {
           fit = kept.fit;
           room = record { each = kept.room.each; left = kept.room.left; lobby = kept.room.lobby };
-          maps = record { few = kept.maps.few; contexts = kept.maps.contexts; blocks = kept.maps.blocks };
+          maps = record { few = kept.maps.few; bodies = kept.maps.bodies; contexts = kept.maps.contexts; blocks = kept.maps.blocks };
         })
 
     with_context : owns_context (body_in h.bodies c.0) ≡ true → is_costly h c.0 ≡ false → Born h (begins_with_context c.0 at lobby holder h) q text m.object c
@@ -148,7 +148,7 @@ module _ (h : Host) (q : Reached) (text : List ℕ) (holder : ℕ) (c : BodyId) 
         (record {
           fit = kept.fit;
           room = record { each = kept.room.each; left = kept.room.left; lobby = kept.room.lobby };
-          maps = record { few = kept.maps.few; contexts = kept.maps.contexts; blocks = kept.maps.blocks };
+          maps = record { few = kept.maps.few; bodies = kept.maps.bodies; contexts = kept.maps.contexts; blocks = kept.maps.blocks };
         })
 
     by_kind : (owns : Bool) → owns_context (body_in h.bodies c.0) ≡ owns → is_costly h c.0 ≡ false → Born h (if owns then begins_with_context c.0 at lobby holder h else begins c.0 at lobby holder h) q text m.object c

@@ -47,7 +47,7 @@ module _ (h : Host) (s : State) (c : ℕ) (r : Rests h s) (given : HasBody h.bod
         }
 
     ready_to : IsReady to
-    ready_to = record { fit = r.ready.fit; room = room_to; maps = record { few = r.ready.maps.few; contexts = r.ready.maps.contexts; blocks = r.ready.maps.blocks } }
+    ready_to = record { fit = r.ready.fit; room = room_to; maps = record { few = r.ready.maps.few; bodies = r.ready.maps.bodies; contexts = r.ready.maps.contexts; blocks = r.ready.maps.blocks } }
 
     -- what is left of the plain cost stands behind all units
     left_same : word_at memory 0x30000004 ≡ word_at h.machine.memory 0x30000004

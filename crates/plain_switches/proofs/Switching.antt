@@ -98,7 +98,7 @@ module _ (h : Host) (memory : Words) (ss : List Status) (park : Parks h memory s
     ready = λ x. record {
       fit = x.fit;
       room = record { each = x.room.each; left = x.room.left; lobby = x.room.lobby };
-      maps = record { few = x.maps.few; contexts = x.maps.contexts; blocks = x.maps.blocks };
+      maps = record { few = x.maps.few; bodies = x.maps.bodies; contexts = x.maps.contexts; blocks = x.maps.blocks };
     };
     parks = parks;
   }
