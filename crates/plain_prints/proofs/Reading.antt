@@ -1,5 +1,5 @@
 -- Strings and integers by their words.
-use Rattle.std.proofs.Common.{◌≡◌, ◌≢◌, inl, inr, refl, sym, ap, subst, ◌∙◌, ℕ, zero, suc, ◌+◌, ◌-◌, ◌*◌, ◌/◌, ◌%◌, ◌<◌, ◌≤◌, List, [], ◌∷◌, length, get_or, arith}
+use Rattle.std.proofs.Common.{◌≡◌, ◌≢◌, inl, inr, refl, sym, ap, subst, ◌∙◌, ℕ, zero, suc, ◌+◌, ◌/◌, ◌%◌, ◌<◌, ◌≤◌, List, [], ◌∷◌, length, get_or, arith}
 use Rattle.std.specs.Prelude.{Option, Some, None, nat_eq, cond, slice_get}
 use Rattle.std.proofs.lemmas.Bool.{cond-false, ne_eqb}
 use Rattle.self_terms.specs.Words.{int_of}
@@ -12,18 +12,18 @@ use Rattle.object_maps.specs.Slots.{Slots, slots_in, slot_named}
 use Rattle.object_maps.specs.Layout.{map_at}
 use Rattle.source_model.specs.declared.objects.Thing.{Thing}
 use Rattle.source_model.specs.declared.objects.Thing.TheVariants.{Text as Bytes}
-use Rattle.source_model.specs.Primitives.{Fails, int_print, string_print, thing_in}
+use Rattle.source_model.specs.Primitives.{int_print, string_print, thing_in}
 use Rattle.source_model.specs.Texts.{integer_text, out_line}
 use Rattle.heap_cells.specs.Heaps.{IsHeap}
 use Rattle.heap_cells.specs.Laying.{Cells}
 use Rattle.heap_cells.specs.Source.{Made}
 use Rattle.heap_cells.specs.Standing.{Places, IsValue}
 use Rattle.heap_cells.proofs.Reading.{integer_aligned}
-use Rattle.prim_table.specs.Operands.{Operand, TextAt, sort_at, sort_named, sort_of}
+use Rattle.prim_table.specs.Operands.{Operand, TextAt, sort_at, sort_named}
 use Rattle.prim_table.specs.declared.sorts.Sort.{Sort}
 use Rattle.prim_table.specs.declared.sorts.Sort.TheVariants as sorts
 use Rattle.prim_table.proofs.Sorting.{IsText, sorted, tagged, text_at, text_found, unprinted}
-use Rattle.prim_table.proofs.Indexing.{IsHere, here_word, text_here}
+use Rattle.prim_table.proofs.Indexing.{here_word, text_here}
 use Rattle.prim_table.proofs.Operating.{integer}
 use Rattle.prim_table.proofs.Packed.{text_byte}
 use Rattle.plain_prims.specs.Performing.{printed_by}

@@ -1,5 +1,5 @@
 // The bytes of a line that wait to be written.
-ghost use Rattle.std.specs.Prelude.{◌≡◌, ◌≤◌, ◌<◌, ◌+◌, ◌^◌, ◌++◌, [], List, ℕ, length, codes, flat_map, IfOk, OnOk, OnErr};
+ghost use Rattle.std.specs.Prelude.{◌≡◌, ◌≤◌, ◌<◌, ◌+◌, ◌^◌, ◌++◌, [], List, ℕ, length, flat_map, IfOk, OnOk, OnErr};
 ghost use Rattle.io_ports.specs.Causes.{HasCause, TakesFront};
 ghost use Rattle.plain_prints.specs.Lines.{IsSent, bytes_from};
 ghost use Rattle.source_model.specs.Texts.{hex, integer_text, out_line, shown_byte};

@@ -1,6 +1,5 @@
 // What primitives print.
 ghost use Rattle.std.specs.Prelude.{◌≡◌, ◌≤◌, [], List, ℕ, OnOk, OnErr, IsErrOf};
-ghost use Rattle.heap_cells.specs.Heaps.{IsHeap};
 ghost use Rattle.io_ports.specs.Causes.{HasCause, Rose, Takes, TakesFront};
 ghost use Rattle.object_maps.specs.Slots.{Slots};
 ghost use Rattle.object_maps.specs.declared.layout.Heap.{Heap};

@@ -1,4 +1,7 @@
-use Rattle.std.proofs.Common.{◌≤◌, ◌+◌, arith}
+use Rattle.std.proofs.Common.{◌++◌, arith}
+use Rattle.std.specs.Prelude.{flat_map}
+use Rattle.source_model.specs.Texts.{shown_byte}
+use Rattle.plain_prints.specs.Lines.{bytes_from}
 use Rattle.plain_prints.proofs.Piecing.{text_begins, text_goes, text_ends, front_goes}
 use Rattle.plain_prints.proofs.Taking.{on_err}
 use Rattle.plain_prints.proofs.pieces.Piece.put_text.Goals as goal
@@ -19,7 +22,7 @@ loop-k-preserved g c =
     let room = c.in_ok-make_room.ensures.room in
     let len = c.put_shown.ensures.len in
     record {
-      sent = text_goes (taken c.args.out.now) (taken c.loop-k.out) (taken c.make_room.new.out) c.args.mem.now c.args.at c.args.count c.loop-k.k c.load_byte.result c.loop-k.self c.make_room.new.self c.put_shown.new.self _
+      sent = text_goes (taken c.args.out.now) (taken c.loop-k.out) (taken c.make_room.new.out) c.args.mem.now c.args.at c.args.count c.loop-k.k c.load_byte.result c.loop-k.self c.make_room.new.self c.put_shown.new.self (c.args.self.now ++ flat_map shown_byte (bytes_from c.args.mem.now c.args.at c.args.count))
           c.loop-k-test.true c.loop-k.invariant.sent c.in_ok-make_room.ensures.sent c.load_byte.ensures.byte c.put_shown.ensures.text;
       room = omega (arith, room, len);
       later = omega (arith, before, later);
