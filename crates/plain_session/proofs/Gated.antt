@@ -8,7 +8,7 @@ use Rattle.source_model.specs.Step.{node_at, place_of, step}
 use Rattle.self_terms.specs.declared.errors.ErrorName.TheVariants as errors
 use Rattle.raw_steps.specs.Sends.{here_of}
 use Rattle.raw_steps.proofs.Fixed.{step_fixed}
-use Rattle.plain_stretches.specs.Gate.{is_built, not_built, gated_at, gated_step, gated_onward, gated_run}
+use Rattle.plain_stretches.specs.Gate.{is_built, not_built, gated_at, gated_step, gated_onward, gated_run, printed}
 use Rattle.plain_session.proofs.Onward.{as_it_is, set_beside}
 use Rattle.plain_session.proofs.Counting.{CountsOn, of_beside, step_counts}
 
@@ -80,7 +80,6 @@ run_behind (suc n) text r = ap (gated_run n) (onward_behind text r) ∙ run_behi
 pub as_behind : (q : Reached) → q ≡ behind q.out (silent q.state)
 as_behind q = ap (λ (o : List ℕ). record { state = q.state; out = o }) (sym (append-nil q.out))
 
--- a run that writes nothing from a silent state writes nothing
-pub run_from : (n : ℕ) (q : Reached) (t : State) → gated_run n (silent q.state) ≡ silent t → gated_run n q ≡ record { state = t; out = q.out }
-run_from n q t e =
-    ap (gated_run n) (as_behind q) ∙ run_behind n q.out (silent q.state) ∙ ap (behind q.out) e ∙ ap (λ (o : List ℕ). record { state = t; out = o }) (append-nil q.out)
+-- what a run writes from a silent state stands behind what was written
+pub run_from : (n : ℕ) (q : Reached) (t : State) (said : List ℕ) → gated_run n (silent q.state) ≡ printed t said → gated_run n q ≡ printed t (q.out ++ said)
+run_from n q t said e = ap (gated_run n) (as_behind q) ∙ run_behind n q.out (silent q.state) ∙ ap (behind q.out) e

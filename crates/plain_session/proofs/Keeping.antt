@@ -11,7 +11,6 @@ use Rattle.source_model.specs.Sends.{Outcome, then_do, begun, entry_cost, entere
 use Rattle.source_model.specs.State.{Activation, State, Reached, silent}
 use Rattle.source_model.specs.Texts.{error_text}
 use Rattle.source_model.proofs.Keeping.{either}
-use Rattle.plain_core.specs.Gated.{may_spawn, gated_spawn}
 
 -- the same names and core objects, and no step more
 abbrev pub Keeps : State → State → Type 0
@@ -50,11 +49,7 @@ module _ (r : Reached) where
   abbrev To : Reached → Type 0
   To t = Keeps r.state t.state
 
-  spawn_keeps : (name : List ℕ) → Keeps r.state (spawn name r).state
+  pub spawn_keeps : (name : List ℕ) → Keeps r.state (spawn name r).state
   spawn_keeps name =
       let met = meets r.state (values.Object 0) (number_of r.state.names name) in
       either To (nat_lt (length r.state.activities) 4) (spawn_met met r) (refused (codes "too many activities") r) (met_keeps met) (refl, refl, refl)
-
-  pub gated_spawn_keeps : (name : List ℕ) → Keeps r.state (gated_spawn name r).state
-  unfolding gated_spawn
-  gated_spawn_keeps name = either To (may_spawn name r.state) (spawn name r) (refused (error_text errors.NotBuilt) r) (spawn_keeps name) (refl, refl, refl)

@@ -3,6 +3,8 @@ pub mod Counting
 pub mod Gated
 pub mod Writing
 pub mod Keeping
+pub mod Fronts
+pub mod Knowing
 pub mod Obeying
 pub mod Switching
 pub mod Naming

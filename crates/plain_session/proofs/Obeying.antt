@@ -1,42 +1,45 @@
 -- Commands obeyed.
-use Rattle.std.proofs.Common.{◌≡◌, ◌≢◌, ℕ, zero, suc, ◌+◌, ◌-◌, ◌^◌, ◌<◌, ◌≤◌, refl, ◌∙◌, ap, sym, subst, arith, inl, inr}
+use Rattle.std.proofs.Common.{◌≡◌, ◌≢◌, ℕ, zero, suc, ◌+◌, ◌-◌, ◌^◌, ◌<◌, ◌≤◌, refl, ◌∙◌, ap, sym, subst, arith, inl, inr, append_assoc}
 use Rattle.std.specs.Prelude.{◌++◌, nat_le, if◌then◌else◌, List, [], ◌∷◌, length, Option, Some, None, Result, Ok, Err, IfOk, OnErr, slice_get, codes}
 use Rattle.std.proofs.lemmas.Bool.{cond-true, cond-false, le-leb, lt-leb}
 use Rattle.std.proofs.lemmas.Option.{slice_get_within}
 use Rattle.self_terms.specs.declared.errors.ErrorName.{ErrorName}
-use Rattle.self_terms.specs.declared.errors.ErrorName.TheVariants as errors
 use Rattle.self_terms.specs.declared.nodes.Place.{Place}
 use Rattle.self_terms.specs.declared.values.Value.{Value}
 use Rattle.source_model.specs.declared.objects.Core.{Core}
+use Rattle.io_ports.specs.Causes.{Takes, TakesFront}
 use Rattle.source_model.specs.Formed.{arity}
 use Rattle.source_model.specs.Lines.{line, activity_line, run_line}
 use Rattle.source_model.specs.Names.{number_of}
-use Rattle.source_model.specs.Script.{refused, switch, over, with_run_line}
+use Rattle.source_model.specs.Script.{refused, spawn, switch, over, with_run_line}
 use Rattle.source_model.specs.State.{Activation, Activity, Running, Answered, Failed, State, Reached, silent}
 use Rattle.source_model.specs.Texts.{error_text}
 use Rattle.plain_host.specs.Hosted.{Hosted, host}
 use Rattle.plain_runs.specs.Host.{Host}
 use Rattle.plain_runs.specs.declared.status.Status.{Status}
 use Rattle.plain_begins.proofs.Starting.{activities_agree}
-use Rattle.plain_stretches.specs.Gate.{gated_run}
+use Rattle.plain_stretches.specs.Gate.{gated_run, printed}
 use Rattle.plain_turns.specs.Asking.{count}
 use Rattle.plain_turns.specs.Resting.{Rests, HasRun}
 use Rattle.plain_births.specs.Meeting.{message}
-use Rattle.plain_core.specs.Gated.{gated_spawn, gated_steps}
-use Rattle.plain_core.specs.Leading.{Leads, Stays}
-use Rattle.plain_core.specs.Running.{HasRunOn}
+use Rattle.plain_core.specs.Language.{Language, IsSpoken, KnowsCore}
+use Rattle.plain_core.specs.Leading.{Leads, Stays, Runs}
+use Rattle.plain_core.specs.Running.{CanRun, HasRunOn, HasBroken as RunBroke}
 use Rattle.plain_core.specs.Spawning.{IsBirth, IsRefused, HasBegun, Comes}
 use Rattle.plain_core.specs.declared.running.Counts.{Counts}
 use Rattle.plain_core.specs.declared.spawning.Birth.{Birth}
-use Rattle.plain_core.specs.declared.spawning.Birth.TheVariants.{Begun, Missing, NotAMethod, TooMany, NotBuilt}
+use Rattle.plain_core.specs.declared.spawning.Birth.TheVariants.{Begun, Refused, NotAMethod, TooMany}
 use Rattle.run_lines.specs.Standing.{IsStanding, GoesOn}
 use Rattle.run_lines.specs.declared.current.Standing.TheVariants as standings
 use Rattle.session_text.specs.declared.commands.Command.{Command}
 use Rattle.session_text.specs.declared.commands.Command.TheVariants as commands
-use Rattle.plain_session.specs.Commands.{obeyed, gated_continue}
-use Rattle.plain_session.specs.Sessions.{Session, host_of, Shows, IsShown, Obeys, IsLed, CountsFew, birth_text}
+use Rattle.plain_session.specs.Commands.{obeyed, gated_steps, gated_continue}
+use Rattle.plain_session.specs.Sessions.{Session, host_of, Shows, IsShown, Obeys, HasObeyed, HasBroken, IsLed, CountsFew, birth_text}
 use Rattle.plain_session.proofs.Gated.{RunsOn, run_remains, run_from}
-use Rattle.plain_session.proofs.Keeping.{gated_spawn_keeps}
+use Rattle.plain_session.proofs.Writing.{spawn_writes, run_text}
+use Rattle.plain_session.proofs.Keeping.{spawn_keeps}
+use Rattle.plain_session.proofs.Fronts.{takes_none, no_front, front_of_first}
+use Rattle.plain_session.proofs.Knowing.{still_spoken, still_known}
 
 -- Machine and host count the steps of the state, and have its current activity.
 pub counts_as : (h : Host) (s : State) → Rests h s → count h ≡ s.steps
@@ -47,14 +50,28 @@ current_as h s r = r.sound.stands.stands.current
 
 -- Spawns.
 
-module _ (x y : Session) (name : List ℕ) (names : y.names ≡ x.names) (core : y.core ≡ x.core) (room : (host_of y).next ≤ y.room) where
-  shows_spawned : (q : Reached) (t : State) → Shows x q.state → Rests (host_of y) t → (gated_spawn name q).state ≡ t → Shows y (gated_spawn name q).state
+-- another session, with the same knowledge of the language
+pub record Follows (x y : Session) : Type 0 where
+  pub language : y.language ≡ x.language
+  pub references : (host_of y).references ≡ (host_of x).references
+  pub room : (host_of y).next ≤ y.room
+
+shows_after : (x y : Session) (s t : State) → Follows x y → Shows x s → Rests (host_of y) t → t.names ≡ s.names → t.core ≡ s.core → Shows y t
+shows_after x y s t f sh r names core = record {
+  rests = r;
+  spoken = subst (λ (l : Language). IsSpoken l t) (sym f.language) (still_spoken x.language s t names core sh.spoken);
+  known = subst (λ (l : Language). KnowsCore (host_of y) l.core) (sym f.language) (still_known (host_of x) (host_of y) x.language.core f.references sh.known);
+  room = f.room;
+}
+
+module _ (x y : Session) (name : List ℕ) (f : Follows x y) where
+  shows_spawned : (q : Reached) (t : State) → Shows x q.state → Rests (host_of y) t → (spawn name q).state ≡ t → Shows y (spawn name q).state
   shows_spawned q t sh r e =
-      let k = gated_spawn_keeps q name in
-      record { rests = subst (λ (s : State). Rests (host_of y) s) (sym e) r; names = k.0 ∙ sh.names ∙ sym names; core = k.1 ∙ sh.core ∙ sym core; room = room }
+      let k = spawn_keeps q name in
+      shows_after x y q.state (spawn name q).state f sh (subst (λ (s : State). Rests (host_of y) s) (sym e) r) k.0 k.1
 
   abbrev Obeyed : Reached → List ℕ → Type 0
-  Obeyed q text = Shows y (gated_spawn name q).state × ((gated_spawn name q).out ≡ q.out ++ text)
+  Obeyed q text = Shows y (spawn name q).state × ((spawn name q).out ≡ q.out ++ text)
 
   refuses : (why : List ℕ) (q : Reached) → Shows x q.state → IsRefused why (host_of x) (host_of y) q name → Obeyed q (line (codes "refused " ++ why))
   refuses why q sh r = (
@@ -70,16 +87,19 @@ module _ (x y : Session) (name : List ℕ) (names : y.names ≡ x.names) (core :
 
   comes : (b : Birth) (q : Reached) → Shows x q.state → Comes (host_of x) (host_of y) q name b → Obeyed q (birth_text (host_of y) b)
   comes Begun q sh c = begins q sh c
-  comes (Missing e) q sh c = refuses (error_text e) q sh c
+  comes (Refused e) q sh c = refuses (error_text e) q sh c
   comes NotAMethod q sh c = refuses (codes "not a method") q sh c
   comes TooMany q sh c = refuses (codes "too many activities") q sh c
-  comes NotBuilt q sh c = refuses (error_text errors.NotBuilt) q sh c
 
-  pub spawn_obeyed : (b : Birth) (number : ℕ) (text : List ℕ) → number ≡ number_of x.names name → arity name ≡ 0 → IsBirth (host_of x) (host_of y) number b → text ≡ birth_text (host_of y) b → Obeys x y (gated_spawn name) text
+  spawn_obeyed : (b : Birth) (number : ℕ) (text : List ℕ) → number ≡ number_of x.language.names name → arity name ≡ 0 → IsBirth (host_of x) (host_of y) number b → text ≡ birth_text (host_of y) b → Obeys x y (spawn name) text
   spawn_obeyed b number text is none birth says q sh =
-      let named : message q.state name ≡ number = ap (λ ns. number_of ns name) sh.names ∙ sym is in
+      let named : message q.state name ≡ number = ap (λ ns. number_of ns name) sh.spoken.names ∙ sym is in
       let o = comes b q sh (birth q name sh.rests named none) in
       (o.0, o.1 ∙ ap (λ t. q.out ++ t) (sym says))
+
+-- Where memory is wanting, nothing is written.
+spawn_breaks : (x : Session) (name : List ℕ) (taken : Option (List ℕ)) → HasBroken x (spawn name) taken taken
+spawn_breaks x name taken q sh = let w = spawn_writes name q in (w.0, w.1, no_front taken w.0)
 
 -- Runs.
 
@@ -111,25 +131,25 @@ ended_obeys x n is q sh = elim (is q.state sh.rests) [
   | inr f ↦ refused_obeys x n (codes "ended") q sh (over_failed n q f.0 f.1 f.2)
 ]
 
-module _ (x y : Session) (n : ℕ) (names : y.names ≡ x.names) (core : y.core ≡ x.core) (room : (host_of y).next ≤ y.room) (k : Counts) (ran : HasRunOn x.room n k (host_of x) (host_of y)) where
+module _ (x y : Session) (n : ℕ) (f : Follows x y) (k : Counts) (old new : Option (List ℕ)) (ran : HasRunOn n k x.language (host_of x) (host_of y) old new) where
   module _ (q : Reached) (sh : Shows x q.state) where
-    pub has : HasRun (host_of y) q.state (q.state.steps + n)
-    has = ran.runs q.state sh.rests
+    pub has : HasRun (host_of y) q.state (q.state.steps + n) ran.said
+    has = ran.runs q.state sh.rests sh.spoken
 
     pub so_many : q.state.steps + n - q.state.steps ≡ n
     so_many = omega arith
 
-    pub runs_to : gated_run n q ≡ record { state = has.state; out = q.out }
-    runs_to = run_from n q has.state (ap (λ k. gated_run k (silent q.state)) (sym so_many) ∙ has.runs)
+    pub runs_to : gated_run n q ≡ printed has.state (q.out ++ ran.said)
+    runs_to = run_from n q has.state ran.said (ap (λ k. gated_run k (silent q.state)) (sym so_many) ∙ has.runs)
 
     pub on : RunsOn n q.state has.state
     on = subst (λ (t : Reached). RunsOn n q.state t.state) runs_to (run_remains n q)
 
     pub shows_run : Shows y has.state
-    shows_run = record { rests = has.rests; names = on.names ∙ sh.names ∙ sym names; core = on.core ∙ sh.core ∙ sym core; room = room }
+    shows_run = shows_after x y q.state has.state f sh has.rests on.names on.core
 
     pub counts_few : count (host_of y) ≤ count (host_of x) + n
-    counts_few = let a = counts_as (host_of x) q.state sh.rests in let b = counts_as (host_of y) has.state has.rests in let f = on.few in omega (arith, a, b, f)
+    counts_few = let a = counts_as (host_of x) q.state sh.rests in let b = counts_as (host_of y) has.state has.rests in let few = on.few in omega (arith, a, b, few)
 
     -- there is still a current activity
     pub current_there : GoesOn (host_of x) → (host_of y).current < length (host_of y).statuses
@@ -143,15 +163,26 @@ module _ (x y : Session) (n : ℕ) (names : y.names ≡ x.names) (core : y.core 
         let all = on.activities in
         omega (arith, many, still, was, before, after, same, all)
 
-    goes_obeyed : (all : List Activation) (text : List ℕ) → slice_get q.state.activities q.state.current ≡ Some (Running all) → text ≡ run_line has.state → Shows y (gated_steps n q).state × ((gated_steps n q).out ≡ q.out ++ text)
+    goes_obeyed : (all : List Activation) (text : List ℕ) → slice_get q.state.activities q.state.current ≡ Some (Running all) → text ≡ run_line has.state → Shows y (gated_steps n q).state × ((gated_steps n q).out ≡ q.out ++ (ran.said ++ text))
     goes_obeyed all text here says =
-        let e : gated_steps n q ≡ with_run_line (record { state = has.state; out = q.out }) = over_running n q all here ∙ ap with_run_line runs_to in
-        (subst (λ (t : Reached). Shows y t.state) (sym e) shows_run, ap (λ (t : Reached). t.out) e ∙ ap (λ t. q.out ++ t) (sym says))
+        let e : gated_steps n q ≡ with_run_line (printed has.state (q.out ++ ran.said)) = over_running n q all here ∙ ap with_run_line runs_to in (
+          subst (λ (t : Reached). Shows y t.state) (sym e) shows_run,
+          ap (λ (t : Reached). t.out) e ∙ append_assoc q.out ran.said (run_line has.state) ∙ ap (λ t. q.out ++ (ran.said ++ t)) (sym says),
+        )
 
-  pub run_obeyed : (text : List ℕ) → ((s : State) → Rests (host_of x) s → IsStanding s standings.Goes) → ((s : State) → Rests (host_of y) s → s.core ≡ y.core → text ≡ run_line s) → Obeys x y (gated_steps n) text
-  run_obeyed text goes says q sh =
-      let g = goes q.state sh.rests in
-      goes_obeyed q sh g.0 text g.1 (says (has q sh).state (has q sh).rests (shows_run q sh).core)
+  pub run_obeyed : (text : List ℕ) → ((s : State) → Rests (host_of x) s → IsStanding s standings.Goes) → ((s : State) → Rests (host_of y) s → s.core ≡ y.language.core → text ≡ run_line s) → HasObeyed x y (gated_steps n) old new text
+  run_obeyed text goes says = record {
+    said = ran.said;
+    takes = ran.takes;
+    obeys = λ q sh. let g = goes q.state sh.rests in goes_obeyed q sh g.0 text g.1 (says (has q sh).state (has q sh).rests (shows_run q sh).spoken.core);
+  }
+
+-- A run that broke off.
+pub run_broken : (x : Session) (n : ℕ) (old new : Option (List ℕ)) → ((s : State) → Rests (host_of x) s → IsStanding s standings.Goes) → RunBroke n x.language (host_of x) old new → HasBroken x (gated_steps n) old new
+run_broken x n old new goes broke q sh =
+    let g = goes q.state sh.rests in
+    let t = gated_run n (silent q.state) in
+    (t.out ++ run_line t.state, ap (λ (r : Reached). r.out) (over_running n q g.0 g.1) ∙ run_text n q, front_of_first old new t.out (run_line t.state) (broke q.state sh.rests sh.spoken))
 
 -- Runs to a count of steps.
 
@@ -168,12 +199,19 @@ continues_as : (n k : ℕ) (q : Reached) → q.state.steps ≤ n → k ≡ n - q
 unfolding gated_continue gated_steps
 continues_as n k q le e = continues_over n (slice_get q.state.activities q.state.current) q le ∙ ap (λ m. over (slice_get q.state.activities q.state.current) (λ all r. with_run_line (gated_run m r)) q) (sym e)
 
-pub continue_obeyed : (x y : Session) (n k done : ℕ) (text : List ℕ) → done ≡ count (host_of x) → done ≤ n → k ≡ n - done → Obeys x y (gated_steps k) text → Obeys x y (gated_continue n) text
-continue_obeyed x y n k done text is le left o q sh =
-    let steps = is ∙ counts_as (host_of x) q.state sh.rests in
-    let same : gated_continue n q ≡ gated_steps k q = continues_as n k q (omega (arith, steps, le)) (left ∙ ap (λ m. n - m) steps) in
-    let P : Reached → Type 0 = λ t. Shows y t.state × (t.out ≡ q.out ++ text) in
-    subst P (sym same) (o q sh)
+module _ (x : Session) (n k done : ℕ) (is : done ≡ count (host_of x)) (le : done ≤ n) (left : k ≡ n - done) where
+  same_run : (q : Reached) → Shows x q.state → gated_continue n q ≡ gated_steps k q
+  same_run q sh = let steps = is ∙ counts_as (host_of x) q.state sh.rests in continues_as n k q (omega (arith, steps, le)) (left ∙ ap (λ m. n - m) steps)
+
+  pub continue_obeyed : (y : Session) (old new : Option (List ℕ)) (text : List ℕ) → HasObeyed x y (gated_steps k) old new text → HasObeyed x y (gated_continue n) old new text
+  continue_obeyed y old new text o = record {
+    said = o.said;
+    takes = o.takes;
+    obeys = λ q sh. subst (λ (t : Reached). Shows y t.state × (t.out ≡ q.out ++ (o.said ++ text))) (sym (same_run q sh)) (o.obeys q sh);
+  }
+
+  pub continue_broken : (old new : Option (List ℕ)) → HasBroken x (gated_steps k) old new → HasBroken x (gated_continue n) old new
+  continue_broken old new b q sh = let t = b q sh in (t.0, ap (λ (r : Reached). r.out) (same_run q sh) ∙ t.1, t.2)
 
 past_over : (n : ℕ) (all : List Activation) (x : Option Activity) (q : Reached) → x ≡ Some (Running all) → n < q.state.steps → over x (Onward n) q ≡ refused (codes "past") q
 past_over n all x q here lt = ap (λ a. over a (Onward n) q) here ∙ cond-false (nat_le q.state.steps n) _ _ (lt-leb q.state.steps n lt)
@@ -214,87 +252,117 @@ ended_continues x n is q sh = elim (is q.state sh.rests) [
 
 -- A session's parts before and behind a call.
 
-abbrev pub of_parts : Hosted → ℕ → List (List ℕ) → Core → ℕ → ℕ → Session
-of_parts hosted room names core instructions services = record { hosted = hosted; room = room; names = names; core = core; instructions = instructions; services = services }
+abbrev pub of_parts : Hosted → ℕ → Language → ℕ → ℕ → Session
+of_parts hosted room language instructions services = record { hosted = hosted; room = room; language = language; instructions = instructions; services = services }
 
 none_beyond : (xs : List Status) (k : ℕ) → slice_get xs k ≡ None → length xs ≤ k
 none_beyond [] k e = omega arith
 none_beyond (y ∷ ys) zero e = absurd (cc)
 none_beyond (y ∷ ys) (suc k) e = omega (arith, none_beyond ys k e)
 
-module _ (x : Session) (old new : Hosted) (room after : ℕ) (names : List (List ℕ)) (core : Core) (i v j w : ℕ) (is : of_parts old room names core i v ≡ x) (same : after ≡ room) (shown : IsShown x) where
+module _ (x : Session) (old : Hosted) (room : ℕ) (language : Language) (i v : ℕ) (is : of_parts old room language i v ≡ x) where
+  pub rests_inside : (s : State) → Rests (host_of x) s → Rests (host old) s
+  rests_inside s r = subst (λ (z : Session). Rests (host_of z) s) (sym is) r
+
+  pub goes_inside : ((s : State) → Rests (host_of x) s → IsStanding s standings.Goes) → (s : State) → Rests (host old) s → IsStanding s standings.Goes
+  goes_inside goes s r = goes s (subst (λ (z : Session). Rests (host_of z) s) is r)
+
+  -- the current activity can go on
+  pub can_run : IsShown x → GoesOn (host_of x) → CanRun language (host old)
+  can_run shown goes =
+      let P : Session → Type 0 = λ z. IsShown z × GoesOn (host_of z) in
+      let both : IsShown (of_parts old room language i v) × GoesOn (host old) = subst P (sym is) (shown, goes) in
+      let sh = both.0.1 in
+      let g = both.1 in
+      record { state = both.0.0; rests = sh.rests; spoken = sh.spoken; sp = g.0; pc = g.1; known = g.2; waits = g.3 }
+
+  pub known_inside : IsShown x → KnowsCore (host old) language.core
+  known_inside shown = let s : IsShown (of_parts old room language i v) = subst IsShown (sym is) shown in s.1.known
+
+  pub broken_inside : (n : ℕ) (taken now : Option (List ℕ)) → ((s : State) → Rests (host_of x) s → IsStanding s standings.Goes) → RunBroke n language (host old) taken now → HasBroken x (gated_steps n) taken now
+  broken_inside n taken now goes broke = subst (λ (z : Session). HasBroken z (gated_steps n) taken now) is (run_broken (of_parts old room language i v) n taken now (goes_inside goes) broke)
+
+-- where no object was made, and the room is as it was
+pub still_room : (x : Session) (old new : Hosted) (room after : ℕ) (language : Language) (i v : ℕ) → of_parts old room language i v ≡ x → IsShown x → after ≡ room → (host new).next ≡ (host old).next → (host new).next ≤ after
+still_room x old new room after language i v is shown same objects =
+    let s : IsShown (of_parts old room language i v) = subst IsShown (sym is) shown in
+    let r = s.1.room in
+    omega (arith, r, objects, same)
+
+module _ (x : Session) (old new : Hosted) (room after : ℕ) (language : Language) (i v j w : ℕ) (is : of_parts old room language i v ≡ x) (shown : IsShown x) (references : (host new).references ≡ (host old).references) (roomy : (host new).next ≤ after) where
   abbrev before : Session
-  before = of_parts old room names core i v
+  before = of_parts old room language i v
 
   abbrev now : Session
-  now = of_parts new after names core j w
+  now = of_parts new after language j w
 
   shown_before : IsShown before
   shown_before = subst IsShown (sym is) shown
 
-  module _ (number : ℕ) (name : List ℕ) (b : Birth) (named : number ≡ number_of names name) (none : arity name ≡ 0) (born : IsBirth (host old) (host new) number b) (objects : (host new).next ≡ (host old).next) where
-    still_room : (host new).next ≤ after
-    still_room = let r = shown_before.1.room in omega (arith, r, objects, same)
+  follows : Follows before now
+  follows = record { language = refl; references = references; room = roomy }
 
-    obeys_before : Obeys before now (gated_spawn name) (birth_text (host new) b)
-    obeys_before = spawn_obeyed before now name refl refl still_room b number (birth_text (host new) b) named none born refl
+  module _ (number : ℕ) (name : List ℕ) (b : Birth) (named : number ≡ number_of language.names name) (none : arity name ≡ 0) (born : IsBirth (host old) (host new) number b) where
+    obeys_before : Obeys before now (spawn name) (birth_text (host new) b)
+    obeys_before = spawn_obeyed before now name follows b number (birth_text (host new) b) named none born refl
 
-    pub spawned_obeys : (text : List ℕ) → text ≡ birth_text (host new) b → Obeys x now (gated_spawn name) text
+    pub spawned_obeys : (text : List ℕ) → text ≡ birth_text (host new) b → Obeys x now (spawn name) text
     spawned_obeys text says =
-        let P : List ℕ → Type 0 = λ t. Obeys x now (gated_spawn name) t in
-        let Q : Session → Type 0 = λ z. Obeys z now (gated_spawn name) (birth_text (host new) b) in
+        let P : List ℕ → Type 0 = λ t. Obeys x now (spawn name) t in
+        let Q : Session → Type 0 = λ z. Obeys z now (spawn name) (birth_text (host new) b) in
         subst P (sym says) (subst Q is obeys_before)
 
-    spawned_shows : Shows now (gated_spawn name (silent shown_before.0)).state
+    spawned_shows : Shows now (spawn name (silent shown_before.0)).state
     spawned_shows = (obeys_before (silent shown_before.0) shown_before.1).0
 
     pub spawned_rests : (s : State) × Rests (host new) s
-    spawned_rests = ((gated_spawn name (silent shown_before.0)).state, spawned_shows.rests)
+    spawned_rests = ((spawn name (silent shown_before.0)).state, spawned_shows.rests)
 
     pub spawned_counts : count (host new) ≡ count (host_of x)
     spawned_counts =
-        counts_as (host new) (gated_spawn name (silent shown_before.0)).state spawned_shows.rests
-        ∙ (gated_spawn_keeps (silent shown_before.0) name).2 ∙ sym (counts_as (host old) shown_before.0 shown_before.1.rests) ∙ ap (λ z. count (host_of z)) is
+        counts_as (host new) (spawn name (silent shown_before.0)).state spawned_shows.rests
+        ∙ (spawn_keeps (silent shown_before.0) name).2 ∙ sym (counts_as (host old) shown_before.0 shown_before.1.rests) ∙ ap (λ (z : Session). count (host_of z)) is
 
-  pub are_led : (n m : ℕ) → Leads room (host old) n m (host new) → j ≡ i + n → w ≡ v + m → IsLed x now
-  are_led n m leads e f = subst (λ (z : Session). IsLed z now) is (record { instructions = n; services = m; leads = leads; done = e; served = f; room = same })
+  pub are_led : (n m : ℕ) → Leads (host old) n m (host new) → j ≡ i + n → w ≡ v + m → IsLed x now
+  are_led n m leads e f = subst (λ (z : Session). IsLed z now) is (record { instructions = n; services = m; leads = leads; done = e; served = f })
 
   pub are_few : (n m : ℕ) → j ≡ i + n → w ≡ v + m → n ≤ 2 ^ 70 → m ≤ 2 ^ 30 → CountsFew x now
   are_few n m e f le lt = subst (λ (z : Session). CountsFew z now) is (record { instructions = omega (arith, e, le); services = omega (arith, f, lt) })
 
-  module _ (n : ℕ) (k : Counts) (ran : HasRunOn room n k (host old) (host new)) (roomy : (host new).next ≤ room) where
-    has_room : (host new).next ≤ after
-    has_room = omega (arith, roomy, same)
+  module _ (n : ℕ) (k : Counts) (taken told : Option (List ℕ)) (ran : HasRunOn n k language (host old) (host new) taken told) where
+    went_shows : Shows now (has before now n follows k taken told ran (silent shown_before.0) shown_before.1).state
+    went_shows = shows_run before now n follows k taken told ran (silent shown_before.0) shown_before.1
 
-    went_shows : Shows now (has before now n refl refl has_room k ran (silent shown_before.0) shown_before.1).state
-    went_shows = shows_run before now n refl refl has_room k ran (silent shown_before.0) shown_before.1
-
-    pub went_rests : (s : State) × Rests (host new) s × (s.core ≡ core)
-    went_rests = ((has before now n refl refl has_room k ran (silent shown_before.0) shown_before.1).state, went_shows.rests, went_shows.core)
+    pub went_rests : (s : State) × Rests (host new) s × (s.core ≡ language.core)
+    went_rests = ((has before now n follows k taken told ran (silent shown_before.0) shown_before.1).state, went_shows.rests, went_shows.spoken.core)
 
     pub went_counts : count (host new) ≤ count (host_of x) + n
     went_counts =
-        let few = counts_few before now n refl refl has_room k ran (silent shown_before.0) shown_before.1 in
+        let few = counts_few before now n follows k taken told ran (silent shown_before.0) shown_before.1 in
         subst (λ (z : Session). count (host new) ≤ count (host_of z) + n) is few
 
     pub went_there : GoesOn (host_of x) → slice_get (host new).statuses (host new).current ≢ None
     went_there goes e =
-        let there = current_there before now n refl refl has_room k ran (silent shown_before.0) shown_before.1 (subst (λ (z : Session). GoesOn (host_of z)) (sym is) goes) in
+        let there = current_there before now n follows k taken told ran (silent shown_before.0) shown_before.1 (subst (λ (z : Session). GoesOn (host_of z)) (sym is) goes) in
         let beyond = none_beyond (host new).statuses (host new).current e in
         omega (arith, there, beyond)
 
-    pub went_obeys : (text : List ℕ) → ((s : State) → Rests (host_of x) s → IsStanding s standings.Goes) → ((s : State) → Rests (host new) s → s.core ≡ core → text ≡ run_line s) → Obeys x now (gated_steps n) text
-    went_obeys text goes says =
-        let Q : Session → Type 0 = λ z. Obeys z now (gated_steps n) text in
-        subst Q is (run_obeyed before now n refl refl has_room k ran text (λ s r. goes s (subst (λ (z : Session). Rests (host_of z) s) is r)) says)
+    pub went_led : j ≡ i + k.instructions → w ≡ v + k.services → IsLed x now
+    went_led e f = are_led (0 + k.instructions) (0 + k.services) (Runs 0 0 k.instructions k.services (host old) (host new) Stays ran.reached) (omega (arith, e)) (omega (arith, f))
 
-pub rests_inside : (x : Session) (old : Hosted) (room : ℕ) (names : List (List ℕ)) (core : Core) (i v : ℕ) → of_parts old room names core i v ≡ x → (s : State) → Rests (host_of x) s → Rests (host old) s
-rests_inside x old room names core i v is s r = subst (λ (z : Session). Rests (host_of z) s) (sym is) r
+    pub went_obeys : (text : List ℕ) → ((s : State) → Rests (host_of x) s → IsStanding s standings.Goes) → ((s : State) → Rests (host new) s → s.core ≡ language.core → text ≡ run_line s) → HasObeyed x now (gated_steps n) taken told text
+    went_obeys text goes says =
+        let Q : Session → Type 0 = λ z. HasObeyed z now (gated_steps n) taken told text in
+        subst Q is (run_obeyed before now n follows k taken told ran text (λ s r. goes s (subst (λ (z : Session). Rests (host_of z) s) is r)) says)
 
 -- Nothing was done.
 
 pub stays_led : (x : Session) → IsLed x x
-stays_led x = record { instructions = 0; services = 0; leads = Stays; done = omega arith; served = omega arith; room = refl }
+stays_led x = record { instructions = 0; services = 0; leads = Stays; done = omega arith; served = omega arith }
+
+-- a line alone was written
+pub says_line : (x y : Session) (does : Reached → Reached) (taken : Option (List ℕ)) (text : List ℕ) → Obeys x y does text → HasObeyed x y does taken taken text
+says_line x y does taken text o = record { said = []; takes = takes_none taken; obeys = o }
 
 pub stays_few : (x : Session) → CountsFew x x
 stays_few x = record { instructions = omega arith; services = omega arith }
@@ -303,15 +371,27 @@ pub on_err : {T E : Type 0} (r : Result T E) (P : Type 0) → P → OnErr r P
 on_err (Ok v) P p = tt
 on_err (Err e) P p = p
 
+pub err_then : {T E : Type 0} (r : Result T E) {P Q : Type 0} → OnErr r P → (P → Q) → OnErr r Q
+err_then (Ok t) p f = tt
+err_then (Err e) p f = f p
+
 pub ok_then : {T E : Type 0} (r : Result T E) {P Q : T → Type 0} → IfOk r P → ((t : T) → P t → Q t) → IfOk r Q
 ok_then (Ok t) p f = f t p
 ok_then (Err e) p f = tt
 
 -- Which command it is.
 
-pub spawn_is : (c : Command) (name : List ℕ) → c ≡ commands.Spawn name → obeyed c ≡ gated_spawn name
+spawn_is : (c : Command) (name : List ℕ) → c ≡ commands.Spawn name → obeyed c ≡ spawn name
 unfolding obeyed
 spawn_is c name e = ap obeyed e
+
+pub spawned_says : (x y : Session) (c : Command) (name given : List ℕ) (taken : Option (List ℕ)) (text : List ℕ) → given ≡ name → c ≡ commands.Spawn name → Obeys x y (spawn given) text → HasObeyed x y (obeyed c) taken taken text
+spawned_says x y c name given taken text same is o =
+    let P : (Reached → Reached) → Type 0 = λ d. Obeys x y d text in
+    says_line x y (obeyed c) taken text (subst P (ap spawn same ∙ sym (spawn_is c name is)) o)
+
+pub spawn_wants : (x : Session) (c : Command) (name : List ℕ) (taken : Option (List ℕ)) → c ≡ commands.Spawn name → HasBroken x (obeyed c) taken taken
+spawn_wants x c name taken is = subst (λ (d : Reached → Reached). HasBroken x d taken taken) (sym (spawn_is c name is)) (spawn_breaks x name taken)
 
 pub run_is : (c : Command) (n : ℕ) → c ≡ commands.Run n → obeyed c ≡ gated_steps n
 unfolding obeyed

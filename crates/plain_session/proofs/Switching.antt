@@ -1,25 +1,28 @@
 -- The command `switch`.
 use Rattle.std.proofs.Common.{◌≡◌, ◌≢◌, ◌⊎◌, ℕ, zero, suc, ◌+◌, ◌-◌, ◌<◌, ◌≤◌, ◌^◌, refl, ◌∙◌, ap, sym, subst, arith, inl, inr}
-use Rattle.std.specs.Prelude.{◌++◌, nat_lt, List, length, Some, slice_get, codes}
+use Rattle.std.specs.Prelude.{◌++◌, ◌==◌, if◌then◌else◌, Bool, true, false, nat_lt, List, length, Option, Some, None, slice_get, codes}
 use Rattle.std.proofs.lemmas.Bool.{cond-true, cond-false, le-ltb}
 use Rattle.sparc_store.specs.Windows.{CanFlush, IsPlace}
 use Rattle.sparc_machine.specs.State.{stack_of}
-use Rattle.source_model.specs.declared.objects.Core.{Core}
 use Rattle.source_model.specs.Lines.{line, activity_line}
 use Rattle.source_model.specs.Script.{Switch, refused, becomes, switch, command}
 use Rattle.source_model.specs.State.{State, Reached}
 use Rattle.plain_host.specs.Hosted.{Hosted, host}
 use Rattle.plain_runs.specs.Host.{Host}
-use Rattle.plain_runs.specs.declared.status.Status.TheVariants.{Waiting}
+use Rattle.plain_runs.specs.Services.{parked, parked_by}
+use Rattle.plain_runs.specs.declared.status.Status.{Status}
+use Rattle.plain_runs.specs.declared.status.Status.TheVariants.{Waiting, Answered, Failed}
 use Rattle.plain_begins.proofs.Starting.{activities_agree}
 use Rattle.plain_turns.specs.Asking.{count}
 use Rattle.plain_turns.specs.Resting.{Rests}
 use Rattle.plain_births.proofs.Flushing.{frames_may_flush}
-use Rattle.plain_switches.specs.Switching.{switches}
+use Rattle.plain_switches.specs.Switching.{switches, taken_up_by, comes_up}
 use Rattle.plain_switches.specs.Resting.{with_current}
 use Rattle.plain_switches.proofs.Switching.{switches_count, switches_come, switches_rest, frames_may_come_up}
+use Rattle.plain_core.specs.Language.{Language}
 use Rattle.plain_core.specs.Leading.{Leads, Stays, Switches}
 use Rattle.plain_session.specs.Sessions.{Session, host_of, Shows, IsShown, Obeys, IsLed, CountsFew}
+use Rattle.plain_session.proofs.Knowing.{still_spoken, still_known}
 use Rattle.plain_session.proofs.Obeying.{counts_as, of_parts}
 
 -- There is no such activity.
@@ -42,16 +45,38 @@ beyond_switches x n lt q sh = refused_is x n q sh (by_number x n q sh lt)
 
 -- There is one.
 
+taken_up_stay : (x : Option Status) (h : Host) → (taken_up_by x h).references ≡ h.references
+taken_up_stay (Some (Waiting sp pc count)) h = refl
+taken_up_stay (Some (Answered w)) h = refl
+taken_up_stay (Some (Failed e p)) h = refl
+taken_up_stay None h = refl
+
+parked_stay : (x : Option Status) (h : Host) → (parked_by x h).references ≡ h.references
+parked_stay (Some (Waiting sp pc count)) h = refl
+parked_stay (Some (Answered w)) h = refl
+parked_stay (Some (Failed e p)) h = refl
+parked_stay None h = refl
+
+comes_stay : (k : ℕ) (h : Host) → (comes_up k (parked h)).references ≡ h.references
+comes_stay k h = taken_up_stay (slice_get (parked h).statuses k) (parked h) ∙ parked_stay (slice_get h.statuses h.current) h
+
+by_number_stay : (b : Bool) (k : ℕ) (h : Host) → (if b then h else comes_up k (parked h)).references ≡ h.references
+by_number_stay true k h = refl
+by_number_stay false k h = comes_stay k h
+
+references_stay : (k : ℕ) (h : Host) → (switches k h).references ≡ h.references
+references_stay k h = by_number_stay (k == h.current) k h
+
 as_command : (n : ℕ) (q : Reached) → command (Switch n) 0 q ≡ switch n q
 unfolding command
 as_command n q = refl
 
-module _ (x : Session) (old new : Hosted) (room : ℕ) (names : List (List ℕ)) (core : Core) (i v : ℕ) (is : of_parts old room names core i v ≡ x) (shown : IsShown x) where
+module _ (x : Session) (old new : Hosted) (room : ℕ) (language : Language) (i v : ℕ) (is : of_parts old room language i v ≡ x) (shown : IsShown x) where
   abbrev before : Session
-  before = of_parts old room names core i v
+  before = of_parts old room language i v
 
   abbrev now : Session
-  now = of_parts new room names core i v
+  now = of_parts new room language i v
 
   shown_before : IsShown before
   shown_before = subst IsShown (sym is) shown
@@ -70,8 +95,8 @@ module _ (x : Session) (old new : Hosted) (room : ℕ) (names : List (List ℕ))
         let room_is = sh.room in
         record {
           rests = subst (λ (h : Host). Rests h (with_current k s)) (sym to) (switches_rest (host old) s k sh.rests there).rests;
-          names = sh.names;
-          core = sh.core;
+          spoken = still_spoken language s (with_current k s) refl refl sh.spoken;
+          known = still_known (host old) (host new) language.core (ap (λ (h : Host). h.references) to ∙ references_stay k (host old)) sh.known;
           room = omega (arith, next_is, room_is);
         }
 
@@ -94,14 +119,8 @@ module _ (x : Session) (old new : Hosted) (room : ℕ) (names : List (List ℕ))
 
     pub switched_led : IsLed x now
     switched_led =
-        let leads : Leads room (host old) 0 0 (host new) = subst (λ (h : Host). Leads room (host old) 0 0 h) (sym to) (Switches 0 0 (host old) k Stays there) in
-        subst (λ (z : Session). IsLed z now) is (record { instructions = 0; services = 0; leads = leads; done = omega arith; served = omega arith; room = refl })
+        let leads : Leads (host old) 0 0 (host new) = subst (λ (h : Host). Leads (host old) 0 0 h) (sym to) (Switches 0 0 (host old) k Stays there) in
+        subst (λ (z : Session). IsLed z now) is (record { instructions = 0; services = 0; leads = leads; done = omega arith; served = omega arith })
 
     pub switched_few : CountsFew x now
     switched_few = subst (λ (z : Session). CountsFew z now) is (record { instructions = omega arith; services = omega arith })
-
-pub stays_led : (x : Session) → IsLed x x
-stays_led x = record { instructions = 0; services = 0; leads = Stays; done = omega arith; served = omega arith; room = refl }
-
-pub stays_few : (x : Session) → CountsFew x x
-stays_few x = record { instructions = omega arith; services = omega arith }

@@ -1,7 +1,6 @@
 -- Commands write behind what was written before.
 use Rattle.std.proofs.Common.{◌≡◌, ℕ, zero, suc, ◌+◌, refl, ◌∙◌, ap, sym, append_assoc, append-nil}
 use Rattle.std.specs.Prelude.{◌++◌, ◌-◌, nat_lt, nat_le, if◌then◌else◌, Bool, true, false, cond, List, [], ◌∷◌, length, Option, Some, None, Ok, Err, slice_get, codes}
-use Rattle.self_terms.specs.declared.errors.ErrorName.TheVariants as errors
 use Rattle.self_terms.specs.declared.values.Value.TheVariants as values
 use Rattle.source_model.specs.declared.objects.Content.TheVariants.{Constant, Assignable, Assignment, Parent, Method}
 use Rattle.source_model.specs.Lines.{line, activity_line, run_line}
@@ -13,10 +12,9 @@ use Rattle.source_model.specs.State.{Activation, Activity, Running, Answered, Fa
 use Rattle.source_model.specs.Texts.{error_text}
 use Rattle.source_model.proofs.Keeping.{either}
 use Rattle.plain_stretches.specs.Gate.{gated_run}
-use Rattle.plain_core.specs.Gated.{may_spawn, gated_spawn, gated_steps}
 use Rattle.session_text.specs.declared.commands.Command.{Command}
 use Rattle.session_text.specs.declared.commands.Command.TheVariants as commands
-use Rattle.plain_session.specs.Commands.{obeyed, all_obeyed, gated_continue}
+use Rattle.plain_session.specs.Commands.{obeyed, all_obeyed, gated_steps, gated_continue}
 use Rattle.plain_session.proofs.Gated.{behind, run_behind, as_behind}
 
 abbrev pub Writes : Reached → Reached → Type 0
@@ -40,20 +38,20 @@ met_writes (Holds o (Assignable v)) r = refuses (codes "not a method") r
 met_writes (Holds o Assignment) r = refuses (codes "not a method") r
 met_writes (Holds o (Parent p)) r = refuses (codes "not a method") r
 
-spawn_writes : (name : List ℕ) (r : Reached) → Writes r (spawn name r)
+pub spawn_writes : (name : List ℕ) (r : Reached) → Writes r (spawn name r)
 spawn_writes name r =
     let met = meets r.state (values.Object 0) (number_of r.state.names name) in
     either (Writes r) (nat_lt (length r.state.activities) 4) (spawn_met met r) (refused (codes "too many activities") r) (met_writes met r) (refuses (codes "too many activities") r)
 
-gated_spawn_writes : (name : List ℕ) (r : Reached) → Writes r (gated_spawn name r)
-unfolding gated_spawn
-gated_spawn_writes name r = either (Writes r) (may_spawn name r.state) (spawn name r) (refused (error_text errors.NotBuilt) r) (spawn_writes name r) (refuses (error_text errors.NotBuilt) r)
-
-run_writes : (n : ℕ) (r : Reached) → Writes r (with_run_line (gated_run n r))
-run_writes n r =
+-- what a run prints, and its line
+pub run_text : (n : ℕ) (r : Reached) → (with_run_line (gated_run n r)).out ≡ r.out ++ ((gated_run n (silent r.state)).out ++ run_line (gated_run n (silent r.state)).state)
+run_text n r =
     let t = gated_run n (silent r.state) in
     let same : gated_run n r ≡ behind r.out t = ap (gated_run n) (as_behind r) ∙ run_behind n r.out (silent r.state) in
-    (t.out ++ run_line t.state, ap (λ (q : Reached). q.out ++ run_line q.state) same ∙ append_assoc r.out t.out (run_line t.state))
+    ap (λ (q : Reached). q.out ++ run_line q.state) same ∙ append_assoc r.out t.out (run_line t.state)
+
+run_writes : (n : ℕ) (r : Reached) → Writes r (with_run_line (gated_run n r))
+run_writes n r = ((gated_run n (silent r.state)).out ++ run_line (gated_run n (silent r.state)).state, run_text n r)
 
 over_writes : (n : ℕ) (x : Option Activity) (r : Reached) → Writes r (over x (λ all q. with_run_line (gated_run n q)) r)
 over_writes n None r = refuses (codes "no activity") r
@@ -82,7 +80,7 @@ switch_writes (suc k) r =
 
 pub command_writes : (c : Command) (r : Reached) → Writes r (obeyed c r)
 unfolding obeyed
-command_writes (commands.Spawn name) r = gated_spawn_writes name r
+command_writes (commands.Spawn name) r = spawn_writes name r
 command_writes (commands.Run n) r = gated_steps_writes n r
 command_writes (commands.Switch k) r = switch_writes k r
 command_writes (commands.Continue n) r = continue_writes n r

@@ -2,7 +2,8 @@
 //
 // Model: `Session` (specs/Sessions.antt) holds machine and host; `Shows` says for which state of the source it stands. What a command comes to is
 // the source's command behind the gate of what isn't built (`obeyed` of specs/Commands.antt).
-// Promise: a command leaves the session showing what the source's command comes to, and gives the line that it writes.
+// Promise: a command leaves the session showing what the source's command comes to; a sink takes what it prints, and the line behind that is given. Of
+// a command that breaks off the sink took a front of what it writes.
 #![tactic(auto)]
 
 mod commands;

@@ -1,15 +1,16 @@
 //! Sessions and their commands.
-ghost use Rattle.std.specs.Prelude.{◌≡◌, ◌≢◌, ◌≤◌, ◌+◌, ◌^◌, ◌++◌, ℕ, [], true, codes, length, slice_get, None, Some, IfOk, OnErr};
+ghost use Rattle.std.specs.Prelude.{◌≡◌, ◌≢◌, ◌≤◌, ◌+◌, ◌^◌, ◌++◌, ℕ, [], true, codes, length, slice_get, None, Some, Err, IfOk, OnErr};
+ghost use Rattle.io_ports.specs.Causes.{Rose};
 ghost use Rattle.source_model.specs.Formed.{IsWellFormed, arity};
 ghost use Rattle.source_model.specs.Lines.{activity_line};
-ghost use Rattle.source_model.specs.Script.{switch};
+ghost use Rattle.source_model.specs.Script.{spawn, switch};
 ghost use Rattle.source_model.specs.Texts.{error_text};
 ghost use Rattle.session_text.specs.LineTexts.{HasRoom, line_text};
 ghost use Rattle.plain_steps.specs.Steps.{NamesSums};
 ghost use Rattle.plain_host.specs.Hosted.{host};
 ghost use Rattle.plain_turns.specs.Asking.{count};
 ghost use Rattle.plain_opens.specs.Opens.{CanOpen};
-ghost use Rattle.plain_core.specs.Gated.{gated_spawn, gated_steps};
+ghost use Rattle.plain_core.specs.declared.running.RunErr.TheVariants.{Write};
 ghost use Rattle.plain_core.specs.Spawning.{CanSpawn};
 ghost use Rattle.run_lines.specs.Standing.{GoesOn, IsStanding};
 ghost use Rattle.run_lines.specs.declared.current.Standing.TheVariants as standings;
@@ -18,29 +19,28 @@ ghost use Rattle.plain_turns.specs.Resting.{Rests};
 ghost use Rattle.world_blocks.specs.Sessions.{session_names};
 ghost use Rattle.world_state.specs.Begun.{begun};
 ghost use Rattle.world_test.specs.Further.{starts_fixed};
-ghost use Rattle.plain_session.specs.Commands.{is_built, obeyed, gated_continue};
-ghost use Rattle.plain_session.specs.Sessions.{host_of, Shows, IsShown, Obeys, IsLed, CanCount, CountsFew, birth_text};
+ghost use Rattle.plain_session.specs.Commands.{is_built, obeyed, gated_steps, gated_continue};
+ghost use Rattle.plain_session.specs.Sessions.{host_of, Shows, IsShown, Obeys, HasObeyed, HasBroken, IsLed, CanCount, CountsFew, birth_text};
 
-use plain_core::Birth;
+use io_ports::Sink;
+use plain_core::{Birth, Language, RunErr};
 use plain_host::Hosting;
 use run_lines::{Standing, run_line, standing_of};
-use self_terms::{ErrorName, Name, Names, OutOfMemory};
+use self_terms::{ErrorName, Name, OutOfMemory};
 use session_text::{Command, LineText};
 use slot_lookup::Walk;
-use source_model::Core;
 use std::alloc::Global;
 use std::marker::Model;
 use world_heap::WorldImage;
 use world_test::{number_of, session_names};
 
-/// Machine and host of a world; room for walks over its objects; the texts of its names; the objects that the language itself knows; and how many
-/// instructions the machine has done, and how many services the host has given.
+/// Machine and host of a world; room for walks over its objects; what the host knows of the language; and how many instructions the machine has done,
+/// and how many services the host has given.
 #[derive(Drop)]
 pub struct Session {
     hosting: Hosting,
     walk: Walk,
-    names: Names,
-    core: Core,
+    language: Language,
     instructions: u128,
     services: u64,
 }
@@ -51,9 +51,9 @@ impl Model for Session {
 
     ghost Value = { sessions.Session };
 
-    ghost view = { λ x. record { hosted = x.hosting; room = x.walk; names = x.names; core = x.core; instructions = x.instructions; services = x.services } };
+    ghost view = { λ x. record { hosted = x.hosting; room = x.walk; language = x.language; instructions = x.instructions; services = x.services } };
 
-    ghost invariant = { λ x. length x.names ≤ 500000000 };
+    ghost invariant = { λ x. length x.language.names ≤ 500000000 };
 }
 
 // Why a message isn't answered, as a line of a refused command.
@@ -94,10 +94,9 @@ fn birth_line(hosting: &Hosting, birth: Birth) -> LineText<'static>
 {
     match birth {
         Birth::Begun => begun_line(hosting),
-        Birth::Missing(error) => LineText::Fixed(refusal(error)),
+        Birth::Refused(error) => LineText::Fixed(refusal(error)),
         Birth::NotAMethod => LineText::Fixed("refused not a method"),
         Birth::TooMany => LineText::Fixed("refused too many activities"),
-        Birth::NotBuilt => LineText::Fixed("refused notBuilt"),
     }
 }
 
@@ -114,15 +113,16 @@ impl Session {
         ensures instructions { IfOk result (λ x. x.instructions ≡ 0) }
         ensures services { IfOk result (λ x. x.services ≡ 0) }
     {
+        image.is_whole();
         let core = image.world().core();
         let names = session_names(alloc, image.world().names())?;
+        let language = Language::open(alloc, names, core)?;
         let hosting = plain_opens::open(alloc, image)?;
         let walk = Walk::open(alloc, hosting.next())?;
         Ok(Session {
             hosting,
             walk,
-            names,
-            core,
+            language,
             instructions: 0,
             services: 0,
         })
@@ -146,14 +146,14 @@ impl Session {
     pub fn spawn(&mut self, alloc: Global, name: &[u8]) -> Result<LineText<'static>, OutOfMemory>
         requires shows { IsShown self.old }
         requires plain { arity name.now ≡ 0 }
-        ensures obeys { IfOk result (λ t. Obeys self.old self.new (gated_spawn name.now) (line_text t)) }
+        ensures obeys { IfOk result (λ t. Obeys self.old self.new (spawn name.now) (line_text t)) }
         ensures room { IfOk result HasRoom }
         ensures counted { IfOk result (λ t. count (host_of self.new) ≡ count (host_of self.old)) }
         ensures led { IfOk result (λ t. IsLed self.old self.new) }
         ensures rose { IfOk result (λ t. CountsFew self.old self.new) }
         ensures unchanged { OnErr result (host_of self.new ≡ host_of self.old) }
     {
-        let number = number_of(&self.names, name);
+        let number = number_of(self.language.names(), name);
         let birth = plain_core::spawn(&mut self.hosting, alloc, &mut self.walk, Name(number))?;
         Ok(birth_line(&self.hosting, birth))
     }
@@ -179,111 +179,151 @@ impl Session {
     }
 
     // A run of the current activity, which goes on.
-    fn go(&mut self, alloc: Global, steps: u32) -> Result<LineText<'static>, OutOfMemory>
+    fn go<K: Sink>(
+        &mut self,
+        alloc: Global,
+        steps: u32,
+        out: &mut K,
+    ) -> Result<LineText<'static>, RunErr>
         requires shows { IsShown self.old }
         requires few { steps ≤ 1000000000 }
         requires counted { count (host_of self.old) ≤ 2 ^ 60 }
         requires fits { CanCount self.old }
         requires goes { GoesOn (host_of self.old) }
         requires stands { (s : State) → Rests (host_of self.old) s → IsStanding s standings.Goes }
-        ensures obeys { IfOk result (λ t. Obeys self.old self.new (gated_steps steps) (line_text t)) }
+        ensures obeys { IfOk result (λ t. HasObeyed self.old self.new (gated_steps steps) (K.taken out.old) (K.taken out.new) (line_text t)) }
         ensures room { IfOk result HasRoom }
         ensures counted { IfOk result (λ t. count (host_of self.new) ≤ count (host_of self.old) + steps) }
         ensures led { IfOk result (λ t. IsLed self.old self.new) }
         ensures rose { IfOk result (λ t. CountsFew self.old self.new) }
+        ensures broken { OnErr result (HasBroken self.old (gated_steps steps) (K.taken out.old) (K.taken out.new)) }
+        ensures later { K.faults out.old ≤ K.faults out.new }
+        ensures cause { result ≡ Err Write → Rose (K.faults out.old) (K.faults out.new) }
     {
-        let taken = plain_core::run(&mut self.hosting, alloc, &mut self.walk, steps)?;
+        let taken = plain_core::run(
+            &mut self.hosting,
+            alloc,
+            &mut self.walk,
+            &self.language,
+            out,
+            steps,
+        )?;
         self.instructions += taken.instructions;
         self.services += taken.services;
-        Ok(run_line(&self.hosting, self.core))
+        Ok(run_line(&self.hosting, self.language.core()))
     }
 
-    /// The command `run` of so many steps, and its line. After want of memory the session can't go on.
-    pub fn run(&mut self, alloc: Global, steps: u32) -> Result<LineText<'static>, OutOfMemory>
+    /// The command `run` of so many steps: `out` takes what is printed, and the line is given. A run that broke off can't go on.
+    pub fn run<K: Sink>(
+        &mut self,
+        alloc: Global,
+        steps: u32,
+        out: &mut K,
+    ) -> Result<LineText<'static>, RunErr>
         requires shows { IsShown self.old }
         requires few { steps ≤ 1000000000 }
         requires counted { count (host_of self.old) ≤ 2 ^ 60 }
         requires fits { CanCount self.old }
-        ensures obeys { IfOk result (λ t. Obeys self.old self.new (gated_steps steps) (line_text t)) }
+        ensures obeys { IfOk result (λ t. HasObeyed self.old self.new (gated_steps steps) (K.taken out.old) (K.taken out.new) (line_text t)) }
         ensures room { IfOk result HasRoom }
         ensures counted { IfOk result (λ t. count (host_of self.new) ≤ count (host_of self.old) + steps) }
         ensures led { IfOk result (λ t. IsLed self.old self.new) }
         ensures rose { IfOk result (λ t. CountsFew self.old self.new) }
+        ensures broken { OnErr result (HasBroken self.old (gated_steps steps) (K.taken out.old) (K.taken out.new)) }
+        ensures later { K.faults out.old ≤ K.faults out.new }
+        ensures cause { result ≡ Err Write → Rose (K.faults out.old) (K.faults out.new) }
     {
         match standing_of(&self.hosting) {
             Standing::Nobody => Ok(LineText::Fixed("refused no activity")),
-            Standing::Goes => self.go(alloc, steps),
+            Standing::Goes => self.go(alloc, steps, out),
             Standing::Ended => Ok(LineText::Fixed("refused ended")),
         }
     }
 
     // On to a count of steps, where the current activity goes on.
-    fn go_to(&mut self, alloc: Global, steps: u32) -> Result<LineText<'static>, OutOfMemory>
+    fn go_to<K: Sink>(
+        &mut self,
+        alloc: Global,
+        steps: u32,
+        out: &mut K,
+    ) -> Result<LineText<'static>, RunErr>
         requires shows { IsShown self.old }
         requires few { steps ≤ 1000000000 }
         requires counted { count (host_of self.old) ≤ 2 ^ 60 }
         requires fits { CanCount self.old }
         requires goes { GoesOn (host_of self.old) }
         requires stands { (s : State) → Rests (host_of self.old) s → IsStanding s standings.Goes }
-        ensures obeys { IfOk result (λ t. Obeys self.old self.new (gated_continue steps) (line_text t)) }
+        ensures obeys { IfOk result (λ t. HasObeyed self.old self.new (gated_continue steps) (K.taken out.old) (K.taken out.new) (line_text t)) }
         ensures room { IfOk result HasRoom }
         ensures counted { IfOk result (λ t. count (host_of self.new) ≤ count (host_of self.old) + steps) }
         ensures led { IfOk result (λ t. IsLed self.old self.new) }
         ensures rose { IfOk result (λ t. CountsFew self.old self.new) }
+        ensures broken { OnErr result (HasBroken self.old (gated_continue steps) (K.taken out.old) (K.taken out.new)) }
+        ensures later { K.faults out.old ≤ K.faults out.new }
+        ensures cause { result ≡ Err Write → Rose (K.faults out.old) (K.faults out.new) }
     {
         let done = self.hosting.steps();
         if done > steps as u64 {
             return Ok(LineText::Fixed("refused past"));
         }
-        self.go(alloc, steps - done as u32)
+        self.go(alloc, steps - done as u32, out)
     }
 
-    /// The command `continue` to a count of steps, and its line. After want of memory the session can't go on.
-    pub fn continue_to(
+    /// The command `continue` to a count of steps: `out` takes what is printed, and the line is given. A run that broke off can't go on.
+    pub fn continue_to<K: Sink>(
         &mut self,
         alloc: Global,
         steps: u32,
-    ) -> Result<LineText<'static>, OutOfMemory>
+        out: &mut K,
+    ) -> Result<LineText<'static>, RunErr>
         requires shows { IsShown self.old }
         requires few { steps ≤ 1000000000 }
         requires counted { count (host_of self.old) ≤ 2 ^ 60 }
         requires fits { CanCount self.old }
-        ensures obeys { IfOk result (λ t. Obeys self.old self.new (gated_continue steps) (line_text t)) }
+        ensures obeys { IfOk result (λ t. HasObeyed self.old self.new (gated_continue steps) (K.taken out.old) (K.taken out.new) (line_text t)) }
         ensures room { IfOk result HasRoom }
         ensures counted { IfOk result (λ t. count (host_of self.new) ≤ count (host_of self.old) + steps) }
         ensures led { IfOk result (λ t. IsLed self.old self.new) }
         ensures rose { IfOk result (λ t. CountsFew self.old self.new) }
+        ensures broken { OnErr result (HasBroken self.old (gated_continue steps) (K.taken out.old) (K.taken out.new)) }
+        ensures later { K.faults out.old ≤ K.faults out.new }
+        ensures cause { result ≡ Err Write → Rose (K.faults out.old) (K.faults out.new) }
     {
         match standing_of(&self.hosting) {
             Standing::Nobody => Ok(LineText::Fixed("refused no activity")),
-            Standing::Goes => self.go_to(alloc, steps),
+            Standing::Goes => self.go_to(alloc, steps, out),
             Standing::Ended => Ok(LineText::Fixed("refused ended")),
         }
     }
 
-    /// A command that is built, and its line. After want of memory in a run the session can't go on.
-    pub fn obey(
+    /// A command that is built: `out` takes what a run prints, and the line is given. After want of memory or a failed write in a run the session can't
+    /// go on.
+    pub fn obey<K: Sink>(
         &mut self,
         alloc: Global,
         command: &Command,
-    ) -> Result<LineText<'static>, OutOfMemory>
+        out: &mut K,
+    ) -> Result<LineText<'static>, RunErr>
         requires shows { IsShown self.old }
         requires counted { count (host_of self.old) ≤ 2 ^ 60 }
         requires fits { CanCount self.old }
         requires built { is_built command.now ≡ true }
-        ensures obeys { IfOk result (λ t. Obeys self.old self.new (obeyed command.now) (line_text t)) }
+        ensures obeys { IfOk result (λ t. HasObeyed self.old self.new (obeyed command.now) (K.taken out.old) (K.taken out.new) (line_text t)) }
         ensures room { IfOk result HasRoom }
         ensures counted { IfOk result (λ t. count (host_of self.new) ≤ count (host_of self.old) + 1000000000) }
         ensures led { IfOk result (λ t. IsLed self.old self.new) }
         ensures rose { IfOk result (λ t. CountsFew self.old self.new) }
+        ensures broken { OnErr result (HasBroken self.old (obeyed command.now) (K.taken out.old) (K.taken out.new)) }
+        ensures later { K.faults out.old ≤ K.faults out.new }
+        ensures cause { result ≡ Err Write → Rose (K.faults out.old) (K.faults out.new) }
     {
         match command {
-            Command::Spawn(name) => self.spawn(alloc, name.as_slice()),
-            Command::Run(steps) => self.run(alloc, *steps),
+            Command::Spawn(name) => Ok(self.spawn(alloc, name.as_slice())?),
+            Command::Run(steps) => self.run(alloc, *steps, out),
             Command::Switch(k) => Ok(self.switch(*k)),
-            Command::Continue(steps) => self.continue_to(alloc, *steps),
-            Command::Step => self.run(alloc, 1),
-            Command::Interrupt(steps) => self.run(alloc, *steps),
+            Command::Continue(steps) => self.continue_to(alloc, *steps, out),
+            Command::Step => self.run(alloc, 1, out),
+            Command::Interrupt(steps) => self.run(alloc, *steps, out),
             _ => unreachable!(),
         }
     }

@@ -1,20 +1,20 @@
 -- The commands of a script, one after the other.
-use Rattle.std.proofs.Common.{◌≡◌, ℕ, zero, suc, ◌+◌, ◌*◌, ◌<◌, ◌≤◌, refl, ◌∙◌, ap, sym, subst, arith, append_assoc, append-nil, inl, inr}
-use Rattle.std.specs.Prelude.{◌⊎◌, ◌&&◌, Bool, true, false, ◌++◌, List, [], ◌∷◌, length, take, drop, Option, Some, None, slice_get, get_or}
+use Rattle.std.proofs.Common.{◌≡◌, ℕ, zero, suc, ◌+◌, ◌*◌, ◌<◌, ◌≤◌, refl, ◌∙◌, ap, sym, subst, arith, append_assoc}
+use Rattle.std.specs.Prelude.{◌&&◌, Bool, true, false, ◌++◌, List, [], ◌∷◌, length, take, drop, Option, Some, None, slice_get, get_or}
 use Rattle.std.specs.List.{list_all}
 use Rattle.io_ports.specs.Causes.{Takes, TakesFront}
 use Rattle.session_text.specs.declared.commands.Command.{Command}
 use Rattle.source_model.specs.State.{Reached, silent}
-use Rattle.plain_core.specs.Leading.{Leads, Stays}
+use Rattle.plain_core.specs.Leading.{Stays}
 use Rattle.plain_core.proofs.Leading.{counted_as, leads_on}
 use Rattle.plain_session.specs.Commands.{is_built, obeyed, all_obeyed, transcript}
 use Rattle.plain_session.specs.Sessions.{Session, host_of, Shows, IsLed}
-use Rattle.plain_session.proofs.Writing.{command_writes, commands_write}
+use Rattle.plain_session.proofs.Writing.{commands_write}
 use Rattle.world_build.specs.Worlds.{World}
 use Rattle.self_debugger.specs.Headline.{IsLedFrom}
 use Rattle.self_debugger.specs.WorldFiles.{begins}
-use Rattle.self_debugger.specs.Parts.{Did, WroteFront, Broke, IsAmid, IsDone}
-use Rattle.self_debugger.proofs.Taking.{takes_both, front_of_first, front_of_both, whole_front, takes_none}
+use Rattle.self_debugger.specs.Parts.{Did, Broke, IsAmid, IsDone}
+use Rattle.self_debugger.proofs.Taking.{takes_both, front_of_first, front_of_both, takes_none}
 
 -- one command in front of others
 obeyed_first : (c : Command) (rest : List Command) (r : Reached) → all_obeyed (c ∷ rest) r ≡ all_obeyed rest (obeyed c r)
@@ -31,8 +31,8 @@ then_led w x y a d = record {
   begun = a.begun;
   idle = a.idle;
   leads =
-      let both = leads_on x.room a.start (host_of x) (host_of y) x.instructions x.services d.instructions d.services a.leads d.leads in
-      subst (λ k. Leads k a.start y.instructions y.services (host_of y)) (sym d.room) (counted_as x.room a.start (host_of y) (x.instructions + d.instructions) y.instructions (x.services + d.services) y.services (sym d.done) (sym d.served) both);
+      let both = leads_on a.start (host_of x) (host_of y) x.instructions x.services d.instructions d.services a.leads d.leads in
+      counted_as a.start (host_of y) (x.instructions + d.instructions) y.instructions (x.services + d.services) y.services (sym d.done) (sym d.served) both;
 }
 
 module _ (w : World) (cs : List Command) where
@@ -42,7 +42,7 @@ module _ (w : World) (cs : List Command) where
     shows = sh;
     took = takes_none old;
     left_is = refl;
-    led = record { start = host_of x; begun = sh.rests; idle = idle; leads = counted_as x.room (host_of x) (host_of x) 0 x.instructions 0 x.services (sym none) (sym unserved) Stays };
+    led = record { start = host_of x; begun = sh.rests; idle = idle; leads = counted_as (host_of x) (host_of x) 0 x.instructions 0 x.services (sym none) (sym unserved) Stays };
   }
 
   module _ (c : Command) (rest : List Command) (x y : Session) (old mid new : Option (List ℕ)) (a : IsAmid w cs (c ∷ rest) x old mid) where
@@ -69,18 +69,12 @@ module _ (w : World) (cs : List Command) where
         let z = commands_write rest (obeyed c a.reached) in
         (z.0, ap (λ (r : Reached). r.out) (sym next_left) ∙ z.1 ∙ ap (λ t. t ++ z.0) e)
 
-    pub broke_front : Broke x y c mid new → TakesFront old new Whole
-    broke_front (inl same) =
-        let t = command_writes c a.reached in
-        let m = whole_is t.0 t.1 in
+    pub broke_front : Broke x c mid new → TakesFront old new Whole
+    broke_front broke =
+        let b = broke a.reached a.shows in
+        let m = whole_is b.0 b.1 in
         let P : List ℕ → Type 0 = λ z. TakesFront old new z in
-        let Q : Option (List ℕ) → Type 0 = λ z. Takes old z a.reached.out in
-        subst P (sym m.1) (front_of_first old new (a.reached.out ++ t.0) m.0 (front_of_first old new a.reached.out t.0 (whole_front old new a.reached.out (subst Q (sym same) a.took))))
-    broke_front (inr f) =
-        let e = (f.obeys a.reached a.shows).1 in
-        let m = whole_is f.text e in
-        let P : List ℕ → Type 0 = λ z. TakesFront old new z in
-        subst P (sym m.1) (front_of_first old new (a.reached.out ++ f.text) m.0 (front_of_both old mid new a.reached.out f.text a.took f.front))
+        subst P (sym m.1) (front_of_first old new (a.reached.out ++ b.0) m.0 (front_of_both old mid new a.reached.out b.0 a.took b.2))
 
   module _ (x : Session) (old now : Option (List ℕ)) (a : IsAmid w cs [] x old now) where
     all_is : a.reached ≡ all_obeyed cs (silent (begins w))

@@ -19,6 +19,7 @@ use crate::lines::{ok_line, script_line};
 use crate::words::{Task, task_of};
 use crate::worlds::{session_over, world_of};
 use io_ports::{Failed, Files, ReadErr, Sink, Source, read_all, read_file, write_all};
+use plain_core::RunErr;
 use plain_session::{Session, all_built};
 use session_text::{Command, Line, ScriptErr, read_script};
 use std::alloc::{AllocError, Global};
@@ -36,7 +37,7 @@ pub struct Ended {
 }
 
 /// All that the program does. Reads the words and the world file. For a check it writes how much the world holds. For a
-/// run it reads the script from the source to its end, runs the commands, and writes a line for each.
+/// run it reads the script from the source to its end, runs the commands, and writes what each prints, and its line.
 ///
 /// Status 0: the world was checked, or the whole script was run. 1: the words aren't accepted. 2: the world is refused. 3: the script is refused. 4: a read failed. 5: a write failed. 6: want of memory.
 pub fn selfdb<F: Files, S: Source, K: Sink>(
@@ -361,7 +362,7 @@ impl From<Failed> for Stop {
     }
 }
 
-// Obeys a command, and writes its line in one call.
+// Obeys a command, whose run writes what it prints, and writes its line behind that in one call.
 fn obey<K: Sink>(
     session: &mut Session,
     alloc: Global,
@@ -374,16 +375,21 @@ fn obey<K: Sink>(
     requires fits { CanCount session.old }
     requires built { is_built command.now ≡ true }
     ensures did { OnOk result (Did session.old session.new command.now (K.taken out.old) (K.taken out.new)) }
-    ensures broke { OnErr result (Broke session.old session.new command.now (K.taken out.old) (K.taken out.new)) }
+    ensures broke { OnErr result (Broke session.old command.now (K.taken out.old) (K.taken out.new)) }
     ensures counted { OnOk result (count (host_of session.new) ≤ count (host_of session.old) + 1000000000) }
     ensures rose { OnOk result (CountsFew session.old session.new) }
     ensures later { K.faults out.old ≤ K.faults out.new }
     ensures write { IsErrOf result Stop.Write → Rose (K.faults out.old) (K.faults out.new) }
 {
-    let text = session.obey(alloc, command)?;
-    line.put(&text);
-    write_all(out, line.bytes())?;
-    Ok(())
+    match session.obey(alloc, command, out) {
+        Ok(text) => {
+            line.put(&text);
+            write_all(out, line.bytes())?;
+            Ok(())
+        }
+        Err(RunErr::Write) => Err(Stop::Write),
+        Err(RunErr::OutOfMemory) => Err(Stop::OutOfMemory),
+    }
 }
 
 // Opens a session over the world, and obeys the commands, each before the next.

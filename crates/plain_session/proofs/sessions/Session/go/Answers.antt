@@ -1,28 +1,37 @@
 use Rattle.std.proofs.Common.{◌+◌, refl, arith}
-use Rattle.plain_session.proofs.Obeying.{went_rests, went_there, went_counts, went_obeys, are_led, are_few}
+use Rattle.plain_session.proofs.Obeying.{can_run, known_inside, broken_inside, went_rests, went_there, went_counts, went_obeys, went_led, are_few, on_err}
 use Rattle.plain_session.proofs.sessions.Session.go.Goals as goal
 
+pub run-requires-clause-rests : goal.run-requires-clause-rests
+run-requires-clause-rests g c = can_run c.args.self.now c.self.inside.hosting c.self.inside.walk c.self.inside.language c.self.inside.instructions c.self.inside.services c.self.view_is c.requires.shows c.requires.goes
+
+pub run-requires-clause-known : goal.run-requires-clause-known
+run-requires-clause-known g c = known_inside c.args.self.now c.self.inside.hosting c.self.inside.walk c.self.inside.language c.self.inside.instructions c.self.inside.services c.self.view_is c.requires.shows
+
+pub returns-in_err-taken-clause-broken : goal.returns-in_err-taken-clause-broken
+returns-in_err-taken-clause-broken g c = on_err c.from_residual.result _ (broken_inside c.args.self.now c.self.inside.hosting c.self.inside.walk c.self.inside.language c.self.inside.instructions c.self.inside.services c.self.view_is c.args.steps (g.K.Sink.taken c.args.out.now) (g.K.Sink.taken c.run.new.out) c.requires.stands c.in_err-taken.ensures.broken)
+
 pub run_line-requires-clause-rests : goal.run_line-requires-clause-rests
-run_line-requires-clause-rests c = went_rests c.args.self.now c.self.inside.hosting c.run.new.hosting c.self.inside.walk c.run.new.walk c.self.inside.names c.self.inside.core c.self.inside.instructions c.self.inside.services (c.self.inside.instructions + c.in_ok-taken.taken.instructions) (c.self.inside.services + c.in_ok-taken.taken.services) c.self.view_is c.run.ensures.same c.requires.shows c.args.steps c.in_ok-taken.taken c.in_ok-taken.ensures.ran c.in_ok-taken.ensures.roomy
+run_line-requires-clause-rests g c = went_rests c.args.self.now c.self.inside.hosting c.run.new.hosting c.self.inside.walk c.run.new.walk c.self.inside.language c.self.inside.instructions c.self.inside.services (c.self.inside.instructions + c.in_ok-taken.taken.instructions) (c.self.inside.services + c.in_ok-taken.taken.services) c.self.view_is c.requires.shows c.in_ok-taken.ensures.same c.in_ok-taken.ensures.roomy c.args.steps c.in_ok-taken.taken (g.K.Sink.taken c.args.out.now) (g.K.Sink.taken c.run.new.out) c.in_ok-taken.ensures.ran
 
 pub run_line-requires-clause-there : goal.run_line-requires-clause-there
-run_line-requires-clause-there c = went_there c.args.self.now c.self.inside.hosting c.run.new.hosting c.self.inside.walk c.run.new.walk c.self.inside.names c.self.inside.core c.self.inside.instructions c.self.inside.services (c.self.inside.instructions + c.in_ok-taken.taken.instructions) (c.self.inside.services + c.in_ok-taken.taken.services) c.self.view_is c.run.ensures.same c.requires.shows c.args.steps c.in_ok-taken.taken c.in_ok-taken.ensures.ran c.in_ok-taken.ensures.roomy c.requires.goes
+run_line-requires-clause-there g c = went_there c.args.self.now c.self.inside.hosting c.run.new.hosting c.self.inside.walk c.run.new.walk c.self.inside.language c.self.inside.instructions c.self.inside.services (c.self.inside.instructions + c.in_ok-taken.taken.instructions) (c.self.inside.services + c.in_ok-taken.taken.services) c.self.view_is c.requires.shows c.in_ok-taken.ensures.same c.in_ok-taken.ensures.roomy c.args.steps c.in_ok-taken.taken (g.K.Sink.taken c.args.out.now) (g.K.Sink.taken c.run.new.out) c.in_ok-taken.ensures.ran c.requires.goes
 
 pub run_line-requires-clause-counted : goal.run_line-requires-clause-counted
-run_line-requires-clause-counted c =
-    let counts = went_counts c.args.self.now c.self.inside.hosting c.run.new.hosting c.self.inside.walk c.run.new.walk c.self.inside.names c.self.inside.core c.self.inside.instructions c.self.inside.services (c.self.inside.instructions + c.in_ok-taken.taken.instructions) (c.self.inside.services + c.in_ok-taken.taken.services) c.self.view_is c.run.ensures.same c.requires.shows c.args.steps c.in_ok-taken.taken c.in_ok-taken.ensures.ran c.in_ok-taken.ensures.roomy in
+run_line-requires-clause-counted g c =
+    let counts = went_counts c.args.self.now c.self.inside.hosting c.run.new.hosting c.self.inside.walk c.run.new.walk c.self.inside.language c.self.inside.instructions c.self.inside.services (c.self.inside.instructions + c.in_ok-taken.taken.instructions) (c.self.inside.services + c.in_ok-taken.taken.services) c.self.view_is c.requires.shows c.in_ok-taken.ensures.same c.in_ok-taken.ensures.roomy c.args.steps c.in_ok-taken.taken (g.K.Sink.taken c.args.out.now) (g.K.Sink.taken c.run.new.out) c.in_ok-taken.ensures.ran in
     let few = c.requires.few in
     let counted = c.requires.counted in
     omega (arith, counts, few, counted)
 
 pub returns-clause-obeys : goal.returns-clause-obeys
-returns-clause-obeys c = went_obeys c.args.self.now c.self.inside.hosting c.run.new.hosting c.self.inside.walk c.run.new.walk c.self.inside.names c.self.inside.core c.self.inside.instructions c.self.inside.services (c.self.inside.instructions + c.in_ok-taken.taken.instructions) (c.self.inside.services + c.in_ok-taken.taken.services) c.self.view_is c.run.ensures.same c.requires.shows c.args.steps c.in_ok-taken.taken c.in_ok-taken.ensures.ran c.in_ok-taken.ensures.roomy _ c.requires.stands c.run_line.ensures.line
+returns-clause-obeys g c = went_obeys c.args.self.now c.self.inside.hosting c.run.new.hosting c.self.inside.walk c.run.new.walk c.self.inside.language c.self.inside.instructions c.self.inside.services (c.self.inside.instructions + c.in_ok-taken.taken.instructions) (c.self.inside.services + c.in_ok-taken.taken.services) c.self.view_is c.requires.shows c.in_ok-taken.ensures.same c.in_ok-taken.ensures.roomy c.args.steps c.in_ok-taken.taken (g.K.Sink.taken c.args.out.now) (g.K.Sink.taken c.run.new.out) c.in_ok-taken.ensures.ran _ c.requires.stands c.run_line.ensures.line
 
 pub returns-clause-counted : goal.returns-clause-counted
-returns-clause-counted c = went_counts c.args.self.now c.self.inside.hosting c.run.new.hosting c.self.inside.walk c.run.new.walk c.self.inside.names c.self.inside.core c.self.inside.instructions c.self.inside.services (c.self.inside.instructions + c.in_ok-taken.taken.instructions) (c.self.inside.services + c.in_ok-taken.taken.services) c.self.view_is c.run.ensures.same c.requires.shows c.args.steps c.in_ok-taken.taken c.in_ok-taken.ensures.ran c.in_ok-taken.ensures.roomy
+returns-clause-counted g c = went_counts c.args.self.now c.self.inside.hosting c.run.new.hosting c.self.inside.walk c.run.new.walk c.self.inside.language c.self.inside.instructions c.self.inside.services (c.self.inside.instructions + c.in_ok-taken.taken.instructions) (c.self.inside.services + c.in_ok-taken.taken.services) c.self.view_is c.requires.shows c.in_ok-taken.ensures.same c.in_ok-taken.ensures.roomy c.args.steps c.in_ok-taken.taken (g.K.Sink.taken c.args.out.now) (g.K.Sink.taken c.run.new.out) c.in_ok-taken.ensures.ran
 
 pub returns-clause-led : goal.returns-clause-led
-returns-clause-led c = are_led c.args.self.now c.self.inside.hosting c.run.new.hosting c.self.inside.walk c.run.new.walk c.self.inside.names c.self.inside.core c.self.inside.instructions c.self.inside.services (c.self.inside.instructions + c.in_ok-taken.taken.instructions) (c.self.inside.services + c.in_ok-taken.taken.services) c.self.view_is c.run.ensures.same c.requires.shows c.in_ok-taken.taken.instructions c.in_ok-taken.taken.services c.in_ok-taken.ensures.led refl refl
+returns-clause-led g c = went_led c.args.self.now c.self.inside.hosting c.run.new.hosting c.self.inside.walk c.run.new.walk c.self.inside.language c.self.inside.instructions c.self.inside.services (c.self.inside.instructions + c.in_ok-taken.taken.instructions) (c.self.inside.services + c.in_ok-taken.taken.services) c.self.view_is c.requires.shows c.in_ok-taken.ensures.same c.in_ok-taken.ensures.roomy c.args.steps c.in_ok-taken.taken (g.K.Sink.taken c.args.out.now) (g.K.Sink.taken c.run.new.out) c.in_ok-taken.ensures.ran refl refl
 
 pub returns-clause-rose : goal.returns-clause-rose
-returns-clause-rose c = are_few c.args.self.now c.self.inside.hosting c.run.new.hosting c.self.inside.walk c.run.new.walk c.self.inside.names c.self.inside.core c.self.inside.instructions c.self.inside.services (c.self.inside.instructions + c.in_ok-taken.taken.instructions) (c.self.inside.services + c.in_ok-taken.taken.services) c.self.view_is c.run.ensures.same c.requires.shows c.in_ok-taken.taken.instructions c.in_ok-taken.taken.services refl refl c.in_ok-taken.ensures.few.instructions c.in_ok-taken.ensures.few.services
+returns-clause-rose g c = are_few c.args.self.now c.self.inside.hosting c.run.new.hosting c.self.inside.walk c.run.new.walk c.self.inside.language c.self.inside.instructions c.self.inside.services (c.self.inside.instructions + c.in_ok-taken.taken.instructions) (c.self.inside.services + c.in_ok-taken.taken.services) c.self.view_is c.requires.shows c.in_ok-taken.ensures.same c.in_ok-taken.ensures.roomy c.in_ok-taken.taken.instructions c.in_ok-taken.taken.services refl refl c.in_ok-taken.ensures.few.instructions c.in_ok-taken.ensures.few.services

@@ -1,0 +1,20 @@
+-- What a sink took of what a command writes.
+use Rattle.std.proofs.Common.{◌≡◌, ℕ, ◌+◌, ◌≤◌, List, [], ◌++◌, length, take, append-nil, length-append, arith, sym}
+use Rattle.std.specs.Prelude.{Option, Some, None}
+use Rattle.std.proofs.lemmas.List.{take-append-le}
+use Rattle.io_ports.specs.Causes.{Takes, TakesFront}
+
+-- nothing
+pub takes_none : (taken : Option (List ℕ)) → Takes taken taken []
+takes_none None = tt
+takes_none (Some xs) = sym (append-nil xs)
+
+pub no_front : (taken : Option (List ℕ)) (xs : List ℕ) → TakesFront taken taken xs
+no_front taken xs = (0, omega arith, takes_none taken)
+
+takes_same : (old new : Option (List ℕ)) (xs ys : List ℕ) → ys ≡ xs → Takes old new xs → Takes old new ys
+takes_same old new xs ys e t = rw e t
+
+-- a front of the first of two
+pub front_of_first : (old new : Option (List ℕ)) (xs ys : List ℕ) → TakesFront old new xs → TakesFront old new (xs ++ ys)
+front_of_first old new xs ys (n, le, t) = (n, omega (arith, length-append xs ys), takes_same old new (take n xs) (take n (xs ++ ys)) (take-append-le n xs ys le) t)
