@@ -59,7 +59,7 @@ pub breaks_here : (l : Language) (trap : ℕ) (h : Host) (target : ℕ) (taken :
 breaks_here l trap h target taken = record {
   said = [];
   takes = takes_none taken;
-  front = λ from out spoken x. trap_front h trap from target out x;
+  front = λ from out spoken x. let f = trap_front h trap from target out x in (f.0, f.1 ∙ ap (λ (ys : List ℕ). ys ++ f.0) (sym (no_more out)));
 }
 
 taken_apart : (n : ℕ) (xs : List ℕ) → take n xs ++ drop n xs ≡ xs
@@ -72,10 +72,10 @@ pub breaks_within : (l : Language) (trap : ℕ) (h : Host) (target : ℕ) (old n
     → ((from : State) (out : List ℕ) → IsSpoken l from → IsAtTrap h trap from target out → (rest : List ℕ) × ((gated_run (target - from.steps) (silent from)).out ≡ (out ++ line) ++ rest)) → Breaks l trap h target old new
 breaks_within l trap h target old new line t more = record {
   said = take t.0 line;
-  takes = t.1.1;
+  takes = t.2;
   front = λ from out spoken x.
       let m = more from out spoken x in
-      (drop t.0 line ++ m.0, m.1 ∙ then_more out line m.0 ∙ ap (λ (ys : List ℕ). out ++ (ys ++ m.0)) (sym (taken_apart t.0 line)) ∙ ap (λ (ys : List ℕ). out ++ ys) (then_more (take t.0 line) (drop t.0 line) m.0));
+      (drop t.0 line ++ m.0, m.1 ∙ ap (λ (ys : List ℕ). (out ++ ys) ++ m.0) (sym (taken_apart t.0 line)) ∙ ap (λ (ys : List ℕ). ys ++ m.0) (sym (then_more out (take t.0 line) (drop t.0 line))) ∙ then_more (out ++ take t.0 line) (drop t.0 line) m.0);
 }
 
 pub breaks_behind : (l : Language) (trap : ℕ) (h : Host) (target : ℕ) (old new : Option (List ℕ)) (line : List ℕ) → Takes old new line
@@ -83,7 +83,7 @@ pub breaks_behind : (l : Language) (trap : ℕ) (h : Host) (target : ℕ) (old n
 breaks_behind l trap h target old new line t more = record {
   said = line;
   takes = t;
-  front = λ from out spoken x. let m = more from out spoken x in (m.0, m.1 ∙ then_more out line m.0);
+  front = more;
 }
 
 take_front : (xs ys : List ℕ) → take (length xs) (xs ++ ys) ≡ xs

@@ -1,6 +1,6 @@
 -- Primitives as turns.
 use Rattle.std.proofs.Common.{◌≡◌, ℕ, ◌+◌, ◌*◌, ◌-◌, ◌<◌, ◌≤◌, List, [], ◌∷◌, ◌++◌, refl, ◌∙◌, ap, sym, subst, arith}
-use Rattle.std.specs.Prelude.{Bool, true, false, if◌then◌else◌, ℤ, pos, negsuc, Option, Some, None, slice_get, length, nat_le, nat_lt}
+use Rattle.std.specs.Prelude.{Bool, true, false, if◌then◌else◌, ℤ, pos, negsuc, ◌+ℤ◌, ◌-ℤ◌, ◌*ℤ◌, int_div, int_rem, Option, Some, None, slice_get, length, nat_le, nat_lt}
 use Rattle.io_ports.specs.Causes.{Takes, TakesFront}
 use Rattle.self_terms.specs.declared.errors.ErrorName.{ErrorName}
 use Rattle.self_terms.specs.declared.errors.ErrorName.TheVariants as errors
@@ -142,11 +142,11 @@ put_quiet (values.Object o) (Some (Vector items)) (i ∷ v ∷ []) = put_at_quie
 put_quiet (values.Object o) (Some (Vector items)) (i ∷ v ∷ w ∷ ws) = refl
 
 quiet_primitive : (s : State) (p : Primitive) (v : Value) (vs : List Value) → is_printing p ≡ false → printed_by (apply s p v vs) ≡ []
-quiet_primitive s prim.IntAdd v vs e = integers_quiet _ (λ x y. checked_quiet _) v vs
-quiet_primitive s prim.IntSub v vs e = integers_quiet _ (λ x y. checked_quiet _) v vs
-quiet_primitive s prim.IntMul v vs e = integers_quiet _ (λ x y. checked_quiet _) v vs
-quiet_primitive s prim.IntDiv v vs e = integers_quiet _ (λ x y. divided_quiet _ x y) v vs
-quiet_primitive s prim.IntMod v vs e = integers_quiet _ (λ x y. divided_quiet _ x y) v vs
+quiet_primitive s prim.IntAdd v vs e = integers_quiet (λ x y. checked (x +ℤ y)) (λ x y. checked_quiet (x +ℤ y)) v vs
+quiet_primitive s prim.IntSub v vs e = integers_quiet (λ x y. checked (x -ℤ y)) (λ x y. checked_quiet (x -ℤ y)) v vs
+quiet_primitive s prim.IntMul v vs e = integers_quiet (λ x y. checked (x *ℤ y)) (λ x y. checked_quiet (x *ℤ y)) v vs
+quiet_primitive s prim.IntDiv v vs e = integers_quiet (divided int_div) (λ x y. divided_quiet int_div x y) v vs
+quiet_primitive s prim.IntMod v vs e = integers_quiet (divided int_rem) (λ x y. divided_quiet int_rem x y) v vs
 quiet_primitive s prim.IntAnd v vs e = integers_quiet _ (λ x y. refl) v vs
 quiet_primitive s prim.IntOr v vs e = integers_quiet _ (λ x y. refl) v vs
 quiet_primitive s prim.IntXor v vs e = integers_quiet _ (λ x y. refl) v vs
@@ -165,13 +165,13 @@ quiet_primitive s prim.IntPrint v vs e = absurd (cc)
 -- One that prints and has answered left memory as it was.
 module _ (maps : List Slots) (mem new : Words) (heap heap_new : Heap) (h : Cells) (p : Places) (things : List Thing) (made : List Made) (receiver word : ℕ) where
   string_same : (t : Option Thing) → IsAnswer maps mem new heap heap_new h p things made receiver (answers.Done word) (string_print t) → new ≡ mem
-  string_same (Some (Text bytes)) a = a.1.0
+  string_same (Some (Text bytes)) a = a.1
   string_same (Some (Plain slots)) a = absurd a
   string_same (Some (Vector items)) a = absurd a
   string_same None a = absurd a
 
   integer_same : (v : Value) → IsAnswer maps mem new heap heap_new h p things made receiver (answers.Done word) (int_print v) → new ≡ mem
-  integer_same (values.Int i) a = a.1.0
+  integer_same (values.Int i) a = a.1
   integer_same (values.Object o) a = absurd a
   integer_same (values.Block b k) a = absurd a
 

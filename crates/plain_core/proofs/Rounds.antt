@@ -70,7 +70,7 @@ broken_on l start h trap target o old mid new said takes at is b = record {
   takes = takes_more old mid new said b.said takes b.takes;
   front = λ from out spoken g.
       let f = b.front from (out ++ said) spoken (at_trap h from target (out ++ said) trap o is (at from out spoken g)) in
-      (f.0, f.1 ∙ then_more out said (b.said ++ f.0) ∙ ap (λ (ys : List ℕ). out ++ ys) (sym (then_more said b.said f.0)));
+      (f.0, f.1 ∙ ap (λ (ys : List ℕ). ys ++ f.0) (then_more out said b.said));
 }
 
 -- The beginning of a run.

@@ -165,24 +165,25 @@ module _ {l : Language} {h to : Host} {target room : ℕ} where
   called cost holder entry left c e f g at fits found there some through =
       quiet_as l 1 h _ to target turns.On turns.On (e ∙ ap (λ (k : ℕ). calls k cost entry holder h) f ∙ ap (λ (k : ℕ). calls (target - count h) k entry holder h) g) refl (call_served l h target room at fits holder c found entry there some through)
 
+home_is : (h to : Host) (target left cost : ℕ) → to ≡ unwinds (left - 1) cost h → left ≡ target - count h → cost ≡ cost_left h → to ≡ unwinds (target - count h - 1) (cost_left h) h
+home_is h to target left cost e f g = e ∙ ap (λ (k : ℕ). unwinds (k - 1) cost h) f ∙ ap (λ (k : ℕ). unwinds (target - count h - 1) k h) g
+
+module _ {l : Language} {h to : Host} {target : ℕ} where
   pub waited : (cost : ℕ) → to ≡ waits 0 cost h → cost ≡ cost_left h → StandsAt l h 2 target → Quiet l 2 h to target turns.Ended
   waited cost e f at = quiet_as l 2 h _ to target turns.Ended turns.Ended (e ∙ ap (λ (k : ℕ). waits 0 k h) f) refl (wait_served l h target at)
 
   pub ended_by : (cost : ℕ) → to ≡ ends 0 cost h → cost ≡ cost_left h → StandsAt l h 9 target → Quiet l 9 h to target turns.Ended
   ended_by cost e f at = quiet_as l 9 h _ to target turns.Ended turns.Ended (e ∙ ap (λ (k : ℕ). ends 0 k h) f) refl (end_served l h target at)
 
-  home_is : (left cost : ℕ) → to ≡ unwinds (left - 1) cost h → left ≡ target - count h → cost ≡ cost_left h → to ≡ unwinds (target - count h - 1) (cost_left h) h
-  home_is left cost e f g = e ∙ ap (λ (k : ℕ). unwinds (k - 1) cost h) f ∙ ap (λ (k : ℕ). unwinds (target - count h - 1) k h) g
-
   pub went_home : (left cost current : ℕ) (o : Option Status) (sp pc known : ℕ) → to ≡ unwinds (left - 1) cost h → left ≡ target - count h → cost ≡ cost_left h → StandsAt l h 4 target → current ≡ h.current → o ≡ slice_get to.statuses current → o ≡ Some (Waiting sp pc known) → Quiet l 4 h to target turns.On
   went_home left cost current o sp pc known e f g at same status waits =
-      let is = home_is left cost e f g in
+      let is = home_is h to target left cost e f g in
       let told_status = ap (λ (y : Host). slice_get y.statuses h.current) (sym is) ∙ ap (λ (k : ℕ). slice_get to.statuses k) (sym same) ∙ sym status ∙ waits in
       quiet_as l 4 h _ to target turns.On turns.On is refl (home_on l h target at sp pc known told_status)
 
   pub was_home : (left cost current : ℕ) (o : Option Status) → to ≡ unwinds (left - 1) cost h → left ≡ target - count h → cost ≡ cost_left h → StandsAt l h 4 target → current ≡ h.current → o ≡ slice_get to.statuses current → ((sp pc known : ℕ) → o ≢ Some (Waiting sp pc known)) → Quiet l 4 h to target turns.Ended
   was_home left cost current o e f g at same status over =
-      let is = home_is left cost e f g in
+      let is = home_is h to target left cost e f g in
       quiet_as l 4 h _ to target turns.Ended turns.Ended is refl (home_ended l h target at (λ sp pc known k. over sp pc known (status ∙ ap (λ (k : ℕ). slice_get to.statuses k) same ∙ ap (λ (y : Host). slice_get y.statuses h.current) is ∙ k)))
 
 -- units stand at addresses that 4 divides

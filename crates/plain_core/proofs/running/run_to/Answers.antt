@@ -1,4 +1,5 @@
 use Rattle.std.proofs.Common.{ℕ, ◌+◌, List, [], ◌++◌, refl, ◌∙◌, arith}
+use Rattle.std.specs.Prelude.{Some}
 use Rattle.plain_host.specs.Hosted.{host}
 use Rattle.plain_core.proofs.Fronts.{takes_none, takes_more}
 use Rattle.plain_core.proofs.Joining.{joined}
@@ -16,8 +17,8 @@ loop-at-init g c =
       grown = omega arith;
       room = still_room (host c.args.hosting.now) (host c.go-first.new.hosting) c.args.walk.now c.go-first.result.instructions first.went c.requires.room;
       same = went_keep (host c.args.hosting.now) (host c.go-first.new.hosting) c.go-first.result.instructions first.went;
-      stands = (c.requires.at.from, (c.requires.at.spoken, (c.requires.at.out, came)));
-      said = ([], (takes_none (g.K.Sink.taken c.args.out.now), λ from out spoken x. next_none (host c.go-first.new.hosting) from c.args.target out _ (first.came from out x).at));
+      stands = (c.requires.at.from, c.requires.at.spoken, c.requires.at.out, came);
+      said = ([], takes_none (g.K.Sink.taken c.args.out.now), λ from out spoken x. next_none (host c.go-first.new.hosting) from c.args.target out (Some c.go-first.result.trap) (first.came from out x).at);
       reached = goes_reached (host c.args.hosting.now) (host c.go-first.new.hosting) c.go-first.result.instructions first.went;
       served = omega (arith, turns);
       taken = omega (arith, turns, few);
@@ -27,7 +28,7 @@ loop-at-init g c =
 pub take_turn-requires-clause-at : goal.take_turn-requires-clause-at
 take_turn-requires-clause-at g c =
     let s = c.loop-at.invariant.stands in
-    record { from = s.0; spoken = s.1.0; out = s.1.1.0; at = at_trap (host c.loop-at.hosting) s.0 c.args.target s.1.1.0 c.in-Some.trap c.loop-at.at c.in-Some.is s.1.1.1 }
+    record { from = s.0; spoken = s.1; out = s.2; at = at_trap (host c.loop-at.hosting) s.0 c.args.target s.2 c.in-Some.trap c.loop-at.at c.in-Some.is s.3 }
 
 pub take_turn-requires-clause-core : goal.take_turn-requires-clause-core
 take_turn-requires-clause-core g c = known_keeps (host c.args.hosting.now) (host c.loop-at.hosting) c.args.language.now.core c.loop-at.invariant.same c.requires.core
@@ -51,9 +52,9 @@ loop-at-preserved g c =
       grown = omega (arith, grown, grows);
       room = c.in_ok-turn.ensures.roomy;
       same = reaches_keep (host c.loop-at.hosting) (host c.take_turn.new.hosting) turn.instructions 1 on.reached ∙ inv.same;
-      stands = (s.0, (s.1.0, (s.1.1.0 ++ on.said, on.at s.0 s.1.1.0 s.1.0 (at_trap (host c.loop-at.hosting) s.0 c.args.target s.1.1.0 c.in-Some.trap c.loop-at.at c.in-Some.is s.1.1.1))));
-      said = (inv.said.0 ++ on.said, (takes_more (g.K.Sink.taken c.args.out.now) (g.K.Sink.taken c.loop-at.out) (g.K.Sink.taken c.take_turn.new.out) inv.said.0 on.said inv.said.1.0 on.takes,
-          λ from out spoken x. next_more (host c.take_turn.new.hosting) from c.args.target out inv.said.0 on.said turn.next (on.at from (out ++ inv.said.0) spoken (at_trap (host c.loop-at.hosting) from c.args.target (out ++ inv.said.0) c.in-Some.trap c.loop-at.at c.in-Some.is (inv.said.1.1 from out spoken x)))));
+      stands = (s.0, s.1, s.2 ++ on.said, on.at s.0 s.2 s.1 (at_trap (host c.loop-at.hosting) s.0 c.args.target s.2 c.in-Some.trap c.loop-at.at c.in-Some.is s.3));
+      said = (inv.said.0 ++ on.said, takes_more (g.K.Sink.taken c.args.out.now) (g.K.Sink.taken c.loop-at.out) (g.K.Sink.taken c.take_turn.new.out) inv.said.0 on.said inv.said.1 on.takes,
+          λ from out spoken x. next_more (host c.take_turn.new.hosting) from c.args.target out inv.said.0 on.said turn.next (on.at from (out ++ inv.said.0) spoken (at_trap (host c.loop-at.hosting) from c.args.target (out ++ inv.said.0) c.in-Some.trap c.loop-at.at c.in-Some.is (inv.said.2 from out spoken x))));
       reached = joined (host c.args.hosting.now) (host c.loop-at.hosting) (host c.take_turn.new.hosting) c.loop-at.instructions c.loop-at.services turn.instructions 1 inv.reached on.reached;
       served = omega (arith, served, less, here);
       taken = omega (arith, taken, less, here, few);
@@ -65,11 +66,11 @@ returns-clause-runs g c =
     let inv = c.loop-at.invariant in
     record {
       said = inv.said.0;
-      takes = inv.said.1.0;
-      ran = λ from out spoken x. none_at (host c.loop-at.hosting) from c.args.target (out ++ inv.said.0) c.loop-at.at c.in_default.is (inv.said.1.1 from out spoken x);
+      takes = inv.said.1;
+      ran = λ from out spoken x. none_at (host c.loop-at.hosting) from c.args.target (out ++ inv.said.0) c.loop-at.at c.in_default.is (inv.said.2 from out spoken x);
     }
 
 pub err-turn-clause-broken : goal.err-turn-clause-broken
 err-turn-clause-broken g c =
     let inv = c.loop-at.invariant in
-    broken_on c.args.language.now (host c.args.hosting.now) (host c.loop-at.hosting) c.in-Some.trap c.args.target c.loop-at.at (g.K.Sink.taken c.args.out.now) (g.K.Sink.taken c.loop-at.out) (g.K.Sink.taken c.take_turn.new.out) inv.said.0 inv.said.1.0 inv.said.1.1 c.in-Some.is c.in_err-turn.ensures.broken
+    broken_on c.args.language.now (host c.args.hosting.now) (host c.loop-at.hosting) c.in-Some.trap c.args.target c.loop-at.at (g.K.Sink.taken c.args.out.now) (g.K.Sink.taken c.loop-at.out) (g.K.Sink.taken c.take_turn.new.out) inv.said.0 inv.said.1 inv.said.2 c.in-Some.is c.in_err-turn.ensures.broken

@@ -48,7 +48,7 @@ returns-in_err-write_line-in-Done-clause-broken g c =
     let core = c.core_words-core.result in
     let was = was_so h c.args.prim c.args.args core to.machine.memory applied.heap applied.answer (answers.Done c.in-Done.word) c.in-Done.is (record { answers = told.answer; outside = told.outside; within = c.is_whole.ensures.machine.memory_within }) in
     let front = c.in_err-write_line-in-Done.ensures.front in
-    answer_breaks_within l h c.args.target c.requires.at c.args.prim c.args.args c.requires.known core c.core_words-core.ensures to applied.heap told.same c.in-Done.word c.args.words was c.requires.costs c.requires.fits (g.K.Sink.taken c.args.out.now) (g.K.Sink.taken c.write_line.new.out) front.0 (says l h c.args.target c.requires.at c.args.prim c.args.args c.requires.known core c.core_words-core.ensures to applied.heap told.same c.in-Done.word c.args.words was c.requires.costs c.requires.fits front.0 front.1.0) front.1.1
+    answer_breaks_within l h c.args.target c.requires.at c.args.prim c.args.args c.requires.known core c.core_words-core.ensures to applied.heap told.same c.in-Done.word c.args.words was c.requires.costs c.requires.fits (g.K.Sink.taken c.args.out.now) (g.K.Sink.taken c.write_line.new.out) front.0 (says l h c.args.target c.requires.at c.args.prim c.args.args c.requires.known core c.core_words-core.ensures to applied.heap told.same c.in-Done.word c.args.words was c.requires.costs c.requires.fits front.0 front.1) front.2
 
 pub make_room-requires : goal.make_room-requires
 make_room-requires g c =
@@ -61,7 +61,7 @@ make_room-requires g c =
     let was = was_so h c.args.prim c.args.args core to.machine.memory applied.heap applied.answer (answers.Done c.in-Done.word) c.in-Done.is (record { answers = told.answer; outside = told.outside; within = c.is_whole.ensures.machine.memory_within }) in
     let said = c.in_ok-write_line-in-Done.ensures.said in
     let next = ap (λ (y : Host). y.next) c.perform.ensures in
-    let more = objects_after l h c.args.target c.requires.at c.args.prim c.args.args c.requires.known core c.core_words-core.ensures to applied.heap told.same c.in-Done.word c.args.words was c.requires.costs c.requires.fits said.0 (says l h c.args.target c.requires.at c.args.prim c.args.args c.requires.known core c.core_words-core.ensures to applied.heap told.same c.in-Done.word c.args.words was c.requires.costs c.requires.fits said.0 said.1.0) in
+    let more = objects_after l h c.args.target c.requires.at c.args.prim c.args.args c.requires.known core c.core_words-core.ensures to applied.heap told.same c.in-Done.word c.args.words was c.requires.costs c.requires.fits said.0 (says l h c.args.target c.requires.at c.args.prim c.args.args c.requires.known core c.core_words-core.ensures to applied.heap told.same c.in-Done.word c.args.words was c.requires.costs c.requires.fits said.0 said.1) in
     let few = (may l h c.args.target c.requires.at c.args.prim c.args.args c.requires.known core c.core_words-core.ensures).few in
     omega (arith, c.next.ensures, next, more, few)
 
@@ -75,7 +75,7 @@ returns-in_err-make_room-in-Done-clause-broken g c =
     let core = c.core_words-core.result in
     let was = was_so h c.args.prim c.args.args core to.machine.memory applied.heap applied.answer (answers.Done c.in-Done.word) c.in-Done.is (record { answers = told.answer; outside = told.outside; within = c.is_whole.ensures.machine.memory_within }) in
     let said = c.in_ok-write_line-in-Done.ensures.said in
-    answer_breaks l h c.args.target c.requires.at c.args.prim c.args.args c.requires.known core c.core_words-core.ensures to applied.heap told.same c.in-Done.word c.args.words was c.requires.costs c.requires.fits (g.K.Sink.taken c.args.out.now) (g.K.Sink.taken c.write_line.new.out) said.0 (says l h c.args.target c.requires.at c.args.prim c.args.args c.requires.known core c.core_words-core.ensures to applied.heap told.same c.in-Done.word c.args.words was c.requires.costs c.requires.fits said.0 said.1.0) said.1.1
+    answer_breaks l h c.args.target c.requires.at c.args.prim c.args.args c.requires.known core c.core_words-core.ensures to applied.heap told.same c.in-Done.word c.args.words was c.requires.costs c.requires.fits (g.K.Sink.taken c.args.out.now) (g.K.Sink.taken c.write_line.new.out) said.0 (says l h c.args.target c.requires.at c.args.prim c.args.args c.requires.known core c.core_words-core.ensures to applied.heap told.same c.in-Done.word c.args.words was c.requires.costs c.requires.fits said.0 said.1) said.2
 
 pub returns-in-Fails-clause-served : goal.returns-in-Fails-clause-served
 returns-in-Fails-clause-served g c =
@@ -100,4 +100,4 @@ returns-in_ok-make_room-in-Done-clause-served g c =
     let was = was_so h c.args.prim c.args.args core to.machine.memory applied.heap applied.answer (answers.Done c.in-Done.word) c.in-Done.is (record { answers = told.answer; outside = told.outside; within = c.is_whole.ensures.machine.memory_within }) in
     let said = c.in_ok-write_line-in-Done.ensures.said in
     let after = host c.perform.new.self in
-    answer_served l h c.args.target c.requires.at c.args.prim c.args.args c.requires.known core c.core_words-core.ensures to applied.heap told.same c.in-Done.word c.args.words was c.requires.costs c.requires.fits after (g.K.Sink.taken c.args.out.now) (g.K.Sink.taken c.write_line.new.out) said.0 (performed_is l h c.args.target c.requires.at c.args.prim c.args.args c.requires.known core c.core_words-core.ensures to applied.heap told.same c.in-Done.word c.args.words was c.requires.costs c.requires.fits after (c.left-goal.result - 1) (c.cost_left-cost.result - c.args.words) c.perform.ensures (ap (λ (k : ℕ). k - 1) c.left-goal.ensures) (ap (λ (k : ℕ). k - c.args.words) c.cost_left-cost.ensures)) (says l h c.args.target c.requires.at c.args.prim c.args.args c.requires.known core c.core_words-core.ensures to applied.heap told.same c.in-Done.word c.args.words was c.requires.costs c.requires.fits said.0 said.1.0) said.1.1
+    answer_served l h c.args.target c.requires.at c.args.prim c.args.args c.requires.known core c.core_words-core.ensures to applied.heap told.same c.in-Done.word c.args.words was c.requires.costs c.requires.fits after (g.K.Sink.taken c.args.out.now) (g.K.Sink.taken c.write_line.new.out) said.0 (performed_is l h c.args.target c.requires.at c.args.prim c.args.args c.requires.known core c.core_words-core.ensures to applied.heap told.same c.in-Done.word c.args.words was c.requires.costs c.requires.fits after (c.left-goal.result - 1) (c.cost_left.result - c.args.words) c.perform.ensures (ap (λ (k : ℕ). k - 1) c.left-goal.ensures) (ap (λ (k : ℕ). k - c.args.words) c.cost_left.ensures)) (says l h c.args.target c.requires.at c.args.prim c.args.args c.requires.known core c.core_words-core.ensures to applied.heap told.same c.in-Done.word c.args.words was c.requires.costs c.requires.fits said.0 said.1) said.2
