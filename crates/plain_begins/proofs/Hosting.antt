@@ -121,6 +121,9 @@ module _ (h : Host) (memory : Words) (older : List Window) (ss : List Status) (p
   pub goal_kept : word_at to.machine.memory 0x30000000 ≡ word_at h.machine.memory 0x30000000
   goal_kept = first_low h memory ss park run room c holder plain none 0x30000000 (omega arith)
 
+  pub left_kept : word_at to.machine.memory 0x30000004 ≡ word_at h.machine.memory 0x30000004
+  left_kept = first_low h memory ss park run room c holder plain none 0x30000004 (omega arith)
+
   pub hosted_then : IsHosted to
   hosted_then = record {
     within = first_within h memory ss park run room c holder plain none;

@@ -26,7 +26,7 @@ use Rattle.plain_begins.specs.Begins.{with_thread, RawBegun, AtPoll, Idle, Began
 use Rattle.plain_begins.proofs.Spawning.{raw_begins, same_count}
 use Rattle.plain_begins.proofs.Parking.{Parks, idle_parks, running_parks, flushed_registers, flushed_memory, parked_status}
 use Rattle.plain_begins.proofs.Filled.{first_place, first_stack, first_there}
-use Rattle.plain_begins.proofs.Hosting.{lain, begins_from, goal_kept, hosted_then, first_node, runs_then, first_entry, raw_then, threads_long}
+use Rattle.plain_begins.proofs.Hosting.{lain, begins_from, goal_kept, left_kept, hosted_then, first_node, runs_then, first_entry, raw_then, threads_long}
 use Rattle.plain_begins.proofs.Free.{free_behind}
 use Rattle.plain_begins.proofs.Initials.{initials_are}
 
@@ -59,7 +59,10 @@ starts z h s f hosted run memory older ss park room o c holder lobby at o_is lob
       all = λ b. run b;
       current = room;
       goal = goal_kept h memory older ss park hosted run room c.0 at lobby holder unit plain none some;
+      left = left_kept h memory older ss park hosted run room c.0 at lobby holder unit plain none some;
       counted = refl;
+      sum = refl;
+      paid = refl;
       first = (first_node h memory older ss park hosted run room c.0 at lobby holder unit plain none some).0;
       runs = runs_then h memory older ss park hosted run room c.0 at lobby holder unit plain none some;
       state = raw.state;

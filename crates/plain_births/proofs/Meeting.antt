@@ -1,6 +1,6 @@
 -- What the host's lookup from the lobby tells.
 use Rattle.std.proofs.Common.{◌≡◌, ℕ, zero, suc, ◌-◌, ◌<◌, ◌≤◌, refl, ◌∙◌, ap, sym, subst, arith, inl, inr}
-use Rattle.std.specs.Prelude.{◌⊎◌, true, nat_lt, List, [], ◌∷◌, length, Option, Some, None, slice_get, codes}
+use Rattle.std.specs.Prelude.{◌⊎◌, nat_lt, List, [], ◌∷◌, length, Option, Some, None, slice_get, codes}
 use Rattle.std.proofs.lemmas.Bool.{cond-true, cond-false, lt-ltb, le-ltb}
 use Rattle.std.proofs.lemmas.Option.{same_Some, none-some}
 use Rattle.self_terms.specs.declared.errors.ErrorName.TheVariants as errors
@@ -23,7 +23,6 @@ use Rattle.plain_answers.specs.Found.{IsMethod}
 use Rattle.plain_begins.proofs.Starting.{activities_agree}
 use Rattle.plain_lookups.specs.Telling.{IsEvaluated, FoundTells}
 use Rattle.plain_lookups.proofs.Telling.{values_told, may}
-use Rattle.plain_stretches.specs.Gate.{is_blockless, may_enter}
 use Rattle.plain_turns.specs.Resting.{Rests}
 use Rattle.plain_births.specs.Meeting.{message, lobby_meets, lobby_finds, refusal, IsLobbyMethod, BirthsMeet, FourAreMost}
 
@@ -73,11 +72,6 @@ data_refused q z met word (OfConstant o v is value) = ap (λ m. spawn_met m q) i
 data_refused q z met word (OfField o v is value) = ap (λ m. spawn_met m q) is
 data_refused q z met word (OfParent o p is there) = ap (λ m. spawn_met m q) is
 
-data_enters : (s : State) (z : _) (met : Met) (word : ℕ) → IsData z met word → may_enter s met ≡ true
-data_enters s z met word (OfConstant o v is value) = ap (may_enter s) is
-data_enters s z met word (OfField o v is value) = ap (may_enter s) is
-data_enters s z met word (OfParent o p is there) = ap (may_enter s) is
-
 same_why : (q : Reached) (a why : List ℕ) → Some a ≡ Some why → refused a q ≡ refused why q
 same_why q a why e = ap (λ x. refused x q) (same_Some a why e)
 
@@ -97,21 +91,12 @@ module _ (h : Host) (q : Reached) (text : List ℕ) (lobby : ℕ) (r : Rests h q
   met_refused (One holder (Assign place)) t why e = ap (λ m. spawn_met m q) (t.assignment r.formed holder place refl).0.met_is ∙ same_why q _ why e
   met_refused (One holder (MethodKind c)) t why e = absurd (none-some why e)
 
-  met_enters : (found : Found) → Told found → (why : List ℕ) → refusal found ≡ Some why → may_enter s (lobby_meets s text) ≡ true
-  met_enters NotUnderstood t why e = ap (may_enter s) (t.missing errors.NotUnderstood refl)
-  met_enters (Ambiguous a b) t why e = ap (may_enter s) (t.missing errors.Ambiguous refl)
-  met_enters (One holder (ConstantKind word)) t why e = data_enters s r.sense _ word (t.constant holder word refl)
-  met_enters (One holder (ParentKind word)) t why e = data_enters s r.sense _ word (t.parent holder word refl)
-  met_enters (One holder (Field place)) t why e = data_enters s r.sense _ _ (t.field holder place refl).known
-  met_enters (One holder (Assign place)) t why e = ap (may_enter s) (t.assignment r.formed holder place refl).0.met_is
-  met_enters (One holder (MethodKind c)) t why e = absurd (none-some why e)
-
   own_method : (holder : ℕ) (c : BodyId) → IsMethod r.sense s (lobby_meets s text) holder c ⊎ IsEvaluated r.sense s (Some (values.Object 0)) (lobby_meets s text) (message s text) holder c lobby → IsMethod r.sense s (lobby_meets s text) holder c
   own_method holder c (inl m) = m
   own_method holder c (inr x) = absurd (let e : Some (values.Object 0) ≡ Some (values.Block x.block x.maker) = x.receiver_is in cc)
 
   entry_at : (c : BodyId) → HasBody h.bodies c.0 → (o : Option ℕ) → slice_get h.entries (c.0 - 1) ≡ o → (at : ℕ) × (slice_get h.entries (c.0 - 1) ≡ Some at) × (at ≤ 0x12000000)
-  entry_at c given None is = absurd (omega (arith, entry_there h.entries (c.0 - 1) is, r.room.each, given.0, given.1))
+  entry_at c given None is = absurd (omega (arith, entry_there h.entries (c.0 - 1) is, r.ready.room.each, given.0, given.1))
   entry_at c given (Some zero) is = (0, is, omega arith)
   entry_at c given (Some (suc a)) is =
       let u = r.sound.hosted.units c.0 (suc a) given.0 is (λ z. absurd (omega (arith, z))) in
@@ -130,7 +115,6 @@ module _ (h : Host) (q : Reached) (text : List ℕ) (lobby : ℕ) (r : Rests h q
         entry = at.0;
         entry_is = at.1;
         low = at.2;
-        gate = ap (may_enter s) m.met_is ∙ ap (λ bs. is_blockless (body_in bs c.0)) (sym bodies);
         arguments = λ none. ap (λ bs. length (body_in bs c.0).arguments) bodies ∙ sym f.arguments ∙ none;
       }
 
@@ -148,5 +132,4 @@ births_meet h q text lobby room r is far =
       missing = told.missing;
       method = λ holder c e. method_is h q text lobby r holder c (own_method h q text lobby r holder c (told.method holder c e));
       refuses = λ why e few stop. spawns h q text stop r few ∙ met_refused h q text lobby r (lobby_finds room h lobby (message s text)) told why e;
-      enters = λ why e. met_enters h q text lobby r (lobby_finds room h lobby (message s text)) told why e;
     }

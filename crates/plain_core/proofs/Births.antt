@@ -1,10 +1,10 @@
 -- What a spawn comes to.
-use Rattle.std.proofs.Common.{◌≡◌, ◌≢◌, ℕ, zero, suc, ◌+◌, ◌*◌, ◌-◌, ◌%◌, ◌<◌, ◌≤◌, List, [], ◌∷◌, refl, ◌∙◌, ap, sym, subst, arith, inl, inr}
-use Rattle.std.specs.Prelude.{◌⊎◌, ◌||◌, nat_lt, not, Bool, true, false, Option, Some, None, slice_get, length}
-use Rattle.std.proofs.lemmas.Bool.{cond-true, cond-false, lt-ltb, le-ltb}
+use Rattle.std.proofs.Common.{◌≡◌, ◌≢◌, ℕ, zero, suc, ◌+◌, ◌*◌, ◌-◌, ◌%◌, ◌^◌, ◌<◌, ◌≤◌, List, [], ◌∷◌, refl, ◌∙◌, ap, sym, subst, arith, inl, inr}
+use Rattle.std.specs.Prelude.{◌⊎◌, ◌&&◌, nat_lt, Bool, true, false, if◌then◌else◌, Option, Some, None, slice_get, length}
+use Rattle.std.proofs.lemmas.Bool.{cond-true, cond-false}
 use Rattle.std.proofs.lemmas.Option.{same_Some}
-use Rattle.self_terms.specs.declared.errors.ErrorName.TheVariants as errors
 use Rattle.self_terms.specs.declared.bodies.Body.{Body}
+use Rattle.self_terms.specs.declared.errors.ErrorName.TheVariants as errors
 use Rattle.self_terms.specs.declared.values.BodyId.{BodyId}
 use Rattle.self_terms.specs.declared.values.Value.TheVariants as values
 use Rattle.object_maps.specs.Slots.{Slots}
@@ -15,8 +15,7 @@ use Rattle.slot_lookup.specs.declared.sends.Found.TheVariants.{One}
 use Rattle.source_model.specs.declared.objects.Content.TheVariants.{Method}
 use Rattle.source_model.specs.Formed.{IsFormed}
 use Rattle.source_model.specs.Messages.{Met, Holds, meets}
-use Rattle.source_model.specs.Script.{Spawn, refused, command}
-use Rattle.source_model.specs.Texts.{error_text}
+use Rattle.source_model.specs.Script.{Spawn, spawn, command}
 use Rattle.source_model.specs.Soundness.{body_in, HasBody}
 use Rattle.source_model.specs.State.{State, Reached}
 use Rattle.source_model.proofs.Accepting.{MetFits, meets_fit}
@@ -24,9 +23,10 @@ use Rattle.sparc_store.specs.Words.{Words}
 use Rattle.sparc_store.specs.Windows.{CanFlush}
 use Rattle.sparc_machine.specs.State.{IsWhole, stack_of}
 use Rattle.plain_words.specs.Going.{At}
+use Rattle.plain_words.specs.Moves.{HasRoom}
 use Rattle.plain_words.specs.Putting.{Apart}
 use Rattle.plain_words.specs.Translating.{CanTranslate}
-use Rattle.plain_words.specs.Units.{unit_code}
+use Rattle.plain_words.specs.Units.{unit_code, owns_context}
 use Rattle.plain_runs.specs.Host.{Host}
 use Rattle.plain_runs.specs.declared.status.Status.{Status}
 use Rattle.plain_runs.specs.declared.status.Status.TheVariants.{Waiting, Answered, Failed}
@@ -35,16 +35,17 @@ use Rattle.plain_answers.specs.Found.{IsMethod}
 use Rattle.plain_lookups.specs.Telling.{MayLook, IsEvaluated}
 use Rattle.plain_lookups.proofs.Telling.{values_told, may}
 use Rattle.plain_units.specs.Putting.{IsPut}
-use Rattle.plain_stretches.specs.Gate.{is_blockless, may_enter}
+use Rattle.plain_evaluates.specs.Evaluates.{context_words}
+use Rattle.plain_spawns.specs.Spawns.{begins_with_context}
 use Rattle.plain_turns.specs.Resting.{Rests}
+use Rattle.plain_births.specs.Births.{born, is_costly, HasRoomThere}
 use Rattle.plain_births.specs.Meeting.{message, lobby_meets, lobby_finds, refusal}
 use Rattle.plain_births.proofs.Units.{units_fit_there, units_rest}
-use Rattle.plain_births.proofs.Meeting.{as_many, births_meet, four_are_most}
-use Rattle.plain_births.proofs.Beginning.{births_rest}
+use Rattle.plain_births.proofs.Meeting.{births_meet, four_are_most}
+use Rattle.plain_births.proofs.Beginning.{births_rest, births_fill, contexts_have_room}
 use Rattle.plain_births.proofs.Flushing.{frames_may_flush}
-use Rattle.plain_core.specs.Gated.{may_spawn, gated_spawn}
 use Rattle.plain_core.specs.Spawning.{CanSpawn, IsRefused, IsBirth, IsReady}
-use Rattle.plain_core.specs.declared.spawning.Birth.TheVariants.{Begun, TooMany, NotBuilt}
+use Rattle.plain_core.specs.declared.spawning.Birth.TheVariants.{Begun, Refused, TooMany}
 
 -- A method that was found for a name.
 
@@ -71,7 +72,7 @@ module _ (h : Host) (s : State) (r : Rests h s) (name : ℕ) where
   own_method holder lobby c met (inr x) = absurd (let e : Some (values.Object 0) ≡ Some (values.Block x.block x.maker) = x.receiver_is in cc)
 
   entry_at : (c : BodyId) → HasBody h.bodies c.0 → (o : Option ℕ) → slice_get h.entries (c.0 - 1) ≡ o → (at : ℕ) × (slice_get h.entries (c.0 - 1) ≡ Some at) × (at ≤ 0x12000000)
-  entry_at c given None is = absurd (omega (arith, no_entry h.entries (c.0 - 1) is, r.room.each, given.0, given.1))
+  entry_at c given None is = absurd (omega (arith, no_entry h.entries (c.0 - 1) is, r.ready.room.each, given.0, given.1))
   entry_at c given (Some zero) is = (0, is, omega arith)
   entry_at c given (Some (suc a)) is =
       let u = r.sound.hosted.units c.0 (suc a) given.0 is (λ z. absurd (omega (arith, z))) in
@@ -119,23 +120,27 @@ ready_there h c at m is some = record {
   statuses = refl;
   references = refl;
   objects = refl;
+  cost = refl;
+  counted = refl;
 }
 
-ready_with : (h : Host) (s : State) (c : ℕ) (memory : Words) → Rests h s → IsPut h c memory → is_blockless (body_in h.bodies c) ≡ true → IsReady h (with_unit c memory h) c (next_unit h)
-ready_with h s c memory r put built = record {
-  rests = λ x q. let p = units_rest h x c memory q put built in (p.rests, p.same);
-  unit = (units_rest h s c memory r put built).unit;
+ready_with : (h : Host) (s : State) (c : ℕ) (memory : Words) → Rests h s → IsPut h c memory → IsReady h (with_unit c memory h) c (next_unit h)
+ready_with h s c memory r put = record {
+  rests = λ x q. let p = units_rest h x c memory q put in (p.rests, p.same);
+  unit = (units_rest h s c memory r put).unit;
   some = λ z. absurd (omega (arith, z));
   low = omega (arith, put.region.to);
   bodies = refl;
   statuses = refl;
   references = refl;
   objects = refl;
+  cost = refl;
+  counted = refl;
 }
 
-module _ (h mid : Host) (s : State) (c : BodyId) (r : Rests h s) (m : IsFound h c) (none : slice_get h.entries (c.0 - 1) ≡ Some 0) (built : is_blockless (body_in h.bodies c.0) ≡ true) where
+module _ (h mid : Host) (s : State) (c : BodyId) (r : Rests h s) (m : IsFound h c) (none : slice_get h.entries (c.0 - 1) ≡ Some 0) where
   pub unit_fits : next_unit h + 4 * length (unit_code h.references (body_in h.bodies c.0)) ≤ 0x12000000
-  unit_fits = units_fit_there h s c.0 r m.given none built
+  unit_fits = units_fit_there h s c.0 r m.given none
 
   pub is_put : At mid.machine.memory (next_unit h) (unit_code h.references (body_in h.bodies c.0)) → Apart h.machine.memory mid.machine.memory (next_unit h) (length (unit_code h.references (body_in h.bodies c.0))) → IsWhole mid.machine
       → IsPut h c.0 mid.machine.memory
@@ -156,31 +161,13 @@ module _ (h mid : Host) (s : State) (c : BodyId) (r : Rests h s) (m : IsFound h 
       let put = is_put code apart whole in
       let P : Host → Type 0 = λ y. IsReady h y c.0 (next_unit h) in
       let Q : ℕ → Type 0 = λ k. IsReady h mid c.0 k in
-      subst Q (sym at_is) (subst P (sym is) (ready_with h s c.0 memory r put built))
+      subst Q (sym at_is) (subst P (sym is) (ready_with h s c.0 memory r put))
 
--- The gate.
+-- The command.
 
-or_true : (b : Bool) → (b || true) ≡ true
-or_true true = refl
-or_true false = refl
-
--- what may be entered may begin
-may_begin : (q : Reached) (text : List ℕ) → may_enter q.state (lobby_meets q.state text) ≡ true → may_spawn text q.state ≡ true
-may_begin q text e = ap (λ b. not (nat_lt (length q.state.activities) 4) || b) e ∙ or_true (not (nat_lt (length q.state.activities) 4))
-
--- of five activities none is asked
-or_more : (q : Reached) (text : List ℕ) → 4 ≤ length q.state.activities → may_spawn text q.state ≡ true
-or_more q text many = ap (λ b. not b || may_enter q.state (lobby_meets q.state text)) (le-ltb (length q.state.activities) 4 many)
-
--- the gate is open
-lets : (q : Reached) (text : List ℕ) → may_spawn text q.state ≡ true → gated_spawn text q ≡ command (Spawn text) 0 q
-unfolding gated_spawn command
-lets q text e = cond-true (may_spawn text q.state) _ _ e
-
--- or it isn't
-stops : (q : Reached) (text : List ℕ) → length q.state.activities < 4 → may_enter q.state (lobby_meets q.state text) ≡ false → gated_spawn text q ≡ refused (error_text errors.NotBuilt) q
-unfolding gated_spawn
-stops q text few e = cond-false (may_spawn text q.state) _ _ (ap (λ b. not b || may_enter q.state (lobby_meets q.state text)) (lt-ltb (length q.state.activities) 4 few) ∙ e)
+is_spawned : (text : List ℕ) (stop : ℕ) (q : Reached) → command (Spawn text) stop q ≡ spawn text q
+unfolding command
+is_spawned text stop q = refl
 
 -- Its activity.
 
@@ -190,16 +177,38 @@ parks_objects h (Some (Waiting sp pc n)) = refl
 parks_objects h (Some (Answered w)) = refl
 parks_objects h (Some (Failed e p)) = refl
 
+parks_references : (h : Host) (x : Option Status) → (parked_by x h).references ≡ h.references
+parks_references h None = refl
+parks_references h (Some (Waiting sp pc n)) = refl
+parks_references h (Some (Answered w)) = refl
+parks_references h (Some (Failed e p)) = refl
+
+module _ (h : Host) (b at lobby holder : ℕ) where
+  born_objects : (owns : Bool) → (if owns then begins_with_context b at lobby holder h else begins b at lobby holder h).next ≡ h.next
+  born_objects true = parks_objects h (slice_get h.statuses h.current)
+  born_objects false = parks_objects h (slice_get h.statuses h.current)
+
+  born_references : (owns : Bool) → (if owns then begins_with_context b at lobby holder h else begins b at lobby holder h).references ≡ h.references
+  born_references true = parks_references h (slice_get h.statuses h.current)
+  born_references false = parks_references h (slice_get h.statuses h.current)
+
 -- the host with the unit can begin it
 pub record CanBegin (h : Host) (c : BodyId) : Type 0 where
   pub given : HasBody h.bodies c.0
   pub translates : CanTranslate (body_in h.bodies c.0)
   pub few : length h.statuses < 4
   pub flushes : (sp pc count : ℕ) → slice_get h.statuses h.current ≡ Some (Waiting sp pc count) → CanFlush (stack_of h.machine)
+  pub room : owns_context (body_in h.bodies c.0) ≡ true → HasRoomThere h c.0
 
-module _ (h mid : Host) (name lobby room holder at : ℕ) (c : BodyId) (is : slice_get h.references.objects 0 ≡ Some lobby) (far : h.next ≤ room) (few : length h.statuses < 4) (found : lobby_finds room h lobby name ≡ One holder (MethodKind c)) (ready : IsReady h mid c.0 at) where
+module _ (h mid : Host) (name lobby room holder at : ℕ) (c : BodyId) (is : slice_get h.references.objects 0 ≡ Some lobby) (far : h.next ≤ room) (few : length h.statuses < 4) (found : lobby_finds room h lobby name ≡ One holder (MethodKind c)) (cheap : is_costly h c.0 ≡ false) (ready : IsReady h mid c.0 at) where
   still_few : length mid.statuses < 4
   still_few = subst (λ (xs : List Status). length xs < 4) (sym ready.statuses) few
+
+  still_cheap : is_costly mid c.0 ≡ false
+  still_cheap =
+      ap (λ bs. owns_context (body_in bs c.0) && nat_lt 4194304 (mid.cost + mid.machine.regs 3 + (4 + (length (body_in bs c.0).arguments + length (body_in bs c.0).locals)))) ready.bodies
+      ∙ ap (λ k. owns_context (body_in h.bodies c.0) && nat_lt 4194304 (k + mid.machine.regs 3 + context_words h c.0)) ready.cost
+      ∙ ap (λ k. owns_context (body_in h.bodies c.0) && nat_lt 4194304 (h.cost + k + context_words h c.0)) ready.counted ∙ cheap
 
   pub can_begin : CanSpawn h → CanBegin mid c
   can_begin rests =
@@ -210,25 +219,46 @@ module _ (h mid : Host) (name lobby room holder at : ℕ) (c : BodyId) (is : sli
         translates = subst (λ bs. CanTranslate (body_in bs c.0)) (sym ready.bodies) m.translates;
         few = still_few;
         flushes = λ sp pc count running. frames_may_flush mid rests.0 x.0 sp pc count running;
+        room = λ owns. contexts_have_room mid rests.0 c.0 x.0 owns still_cheap;
       }
 
-  module _ (to : Host) (begun : to ≡ begins c.0 at lobby holder mid) where
-    pub born : is_blockless (body_in h.bodies c.0) ≡ true → IsBirth h to name Begun
-    born built q text r named none =
+  module _ (to : Host) (begun : to ≡ born c.0 at lobby holder mid) where
+    pub is_born : IsBirth h to name Begun
+    is_born q text r named none =
         let m = (births_meet h q text lobby room r is far).method holder c (ap (lobby_finds room h lobby) named ∙ found) in
         let x = ready.rests q.state r in
         let met : IsMethod x.0.sense q.state (lobby_meets q.state text) holder c = subst (λ z. IsMethod z q.state (lobby_meets q.state text) holder c) (sym x.1) m.met in
         let known : slice_get mid.references.objects 0 ≡ Some lobby = ap (λ y. slice_get y.objects 0) ready.references ∙ is in
         let takes : length (body_in mid.bodies c.0).arguments ≡ 0 = ap (λ bs. length (body_in bs c.0).arguments) ready.bodies ∙ m.arguments none in
-        let b = births_rest mid q text holder lobby at c x.0 still_few known met ready.unit ready.some takes in
+        let b = births_rest mid q text holder lobby at c x.0 still_few known met ready.unit ready.some takes still_cheap in
         record {
           state = b.state;
           rests = subst (λ (y : Host). Rests y b.state) (sym begun) b.rests;
-          comes = lets q text (may_begin q text (m.gate ∙ built)) ∙ b.comes 0;
+          comes = sym (is_spawned text 0 q) ∙ b.comes 0;
         }
 
     pub objects : to.next ≡ h.next
-    objects = ap (λ (y : Host). y.next) begun ∙ parks_objects mid (slice_get mid.statuses mid.current) ∙ ready.objects
+    objects = ap (λ (y : Host). y.next) begun ∙ born_objects mid c.0 at lobby holder (owns_context (body_in mid.bodies c.0)) ∙ ready.objects
+
+    pub references : to.references ≡ h.references
+    references = ap (λ (y : Host). y.references) begun ∙ born_references mid c.0 at lobby holder (owns_context (body_in mid.bodies c.0)) ∙ ready.references
+
+-- with a context where its activations have one
+module _ (h : Host) (b : ℕ) where
+  pub owns_as : (owns : Bool) (x : Body) → owns ≡ owns_context x → x ≡ body_in h.bodies b → owns_context (body_in h.bodies b) ≡ owns
+  owns_as owns x is same = ap owns_context (sym same) ∙ sym is
+
+  pub context_fits : HasRoomThere h b → HasRoom (h.machine.regs 6) (4 + length (body_in h.bodies b).locals)
+  context_fits r = record { aligned = r.aligned; from = r.within; to = omega (arith, r.heap) }
+
+  pub cost_fits : HasRoomThere h b → h.machine.regs 3 + 4 + length (body_in h.bodies b).locals < 2 ^ 32
+  cost_fits r = omega (arith, r.cost)
+
+  pub born_with : (at receiver holder : ℕ) → owns_context (body_in h.bodies b) ≡ true → begins_with_context b at receiver holder h ≡ born b at receiver holder h
+  born_with at receiver holder e = sym (cond-true (owns_context (body_in h.bodies b)) (begins_with_context b at receiver holder h) (begins b at receiver holder h) e)
+
+  pub born_without : (at receiver holder : ℕ) → owns_context (body_in h.bodies b) ≡ false → begins b at receiver holder h ≡ born b at receiver holder h
+  born_without at receiver holder e = sym (cond-false (owns_context (body_in h.bodies b)) (begins_with_context b at receiver holder h) (begins b at receiver holder h) e)
 
 -- The command is refused.
 
@@ -237,18 +267,19 @@ module _ (h : Host) (name lobby room : ℕ) (is : slice_get h.references.objects
   unmet found why e w q text r named =
       let told = births_meet h q text lobby room r is far in
       let finds = ap refusal (ap (lobby_finds room h lobby) named ∙ e) ∙ w in
-      record { same = refl; refuses = lets q text (may_begin q text (told.enters why finds)) ∙ told.refuses why finds few 0 }
+      record { same = refl; refuses = sym (is_spawned text 0 q) ∙ told.refuses why finds few 0 }
 
-  pub unbuilt : (holder : ℕ) (c : BodyId) → lobby_finds room h lobby name ≡ One holder (MethodKind c) → is_blockless (body_in h.bodies c.0) ≡ false → IsBirth h h name NotBuilt
-  unbuilt holder c e blocks q text r named none =
+  pub unpaid : (holder : ℕ) (c : BodyId) → lobby_finds room h lobby name ≡ One holder (MethodKind c) → is_costly h c.0 ≡ true → IsBirth h h name (Refused errors.StoreFull)
+  unpaid holder c e much q text r named none =
       let m = (births_meet h q text lobby room r is far).method holder c (ap (lobby_finds room h lobby) named ∙ e) in
-      record { same = refl; refuses = stops q text (let same = as_many h q.state r in omega (arith, same, few)) (m.gate ∙ blocks) }
+      record { same = refl; refuses = sym (is_spawned text 0 q) ∙ births_fill h q text holder c r few m.met (m.arguments none) much 0 }
 
 pub too_many : (h : Host) (name : ℕ) → 4 ≤ length h.statuses → IsBirth h h name TooMany
-too_many h name many q text r named none = record {
-  same = refl;
-  refuses = lets q text (or_more q text (let same = as_many h q.state r in omega (arith, same, many))) ∙ four_are_most h q text 0 r many;
-}
+too_many h name many q text r named none = record { same = refl; refuses = sym (is_spawned text 0 q) ∙ four_are_most h q text 0 r many }
+
+-- the sums of the plain cost are within its limit
+pub sums_within : (h : Host) (s : State) → Rests h s → h.cost + h.machine.regs 3 ≤ 4194304
+sums_within h s r = let cost : h.cost + h.machine.regs 3 ≡ s.cost = r.sound.stands.stands.cost in omega (arith, cost, r.sound.stands.stands.within)
 
 -- What the calls tell.
 
@@ -264,6 +295,3 @@ module _ (maps : List Slots) (memory : Words) (h : Host) (room lobby : ℕ) (map
 
   pub start_looks : IsValue maps memory lobby
   start_looks = looks.start
-
-pub blocks_by : (bare : Bool) (x : Body) (h : Host) (b : ℕ) → bare ≡ false → bare ≡ is_blockless x → x ≡ body_in h.bodies b → is_blockless (body_in h.bodies b) ≡ false
-blocks_by bare x h b blocks is same = ap is_blockless (sym same) ∙ sym is ∙ blocks

@@ -10,7 +10,7 @@ use Rattle.plain_stretches.specs.Standing.{left_of}
 use Rattle.plain_turns.specs.Resting.{IsGoing, IsAtTrap, HasRun}
 use Rattle.plain_core.specs.Language.{Language, IsSpoken}
 use Rattle.plain_core.specs.Turning.{Breaks}
-use Rattle.plain_core.proofs.Laws.{runs_join}
+use Rattle.plain_stretches.proofs.Joining.{runs_join}
 
 pub no_more : (xs : List ℕ) → xs ++ [] ≡ xs
 no_more [] = refl

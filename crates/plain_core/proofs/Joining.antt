@@ -11,7 +11,7 @@ use Rattle.plain_core.specs.Language.{Language}
 use Rattle.plain_core.specs.Turning.{CanGoOn, StandsAt, Came, Went, Turned, on, again, ended, Served, TurnsOn, far}
 use Rattle.plain_core.specs.declared.turning.Turn.{Turn}
 use Rattle.plain_core.specs.declared.turning.Turn.TheVariants as turns
-use Rattle.plain_core.proofs.Laws.{traps_tell}
+use Rattle.plain_turns.proofs.Running.{traps_tell}
 
 pub as_many : (h to : Host) (i j v w : ℕ) → i ≡ j → v ≡ w → Reaches h i v to → Reaches h j w to
 as_many h to i j v w e f r = subst (λ (k : ℕ). Reaches h k w to) e (subst (λ (k : ℕ). Reaches h i k to) f r)

@@ -66,9 +66,11 @@ went_keep h to n w = ap (λ (y : Host). y.references) w.is
 pub known_keeps : (h to : Host) (core : Core) → to.references ≡ h.references → KnowsCore h core → KnowsCore to core
 known_keeps h to core e k =
     let words = k.0 in
-    let known = k.1 in
-    (words, record {
-      nil = known.nil ∙ ap (λ (r : References). r.nil) (sym e);
-      yes = ap (λ (r : References). slice_get r.objects core.yes) e ∙ known.yes;
-      no = ap (λ (r : References). slice_get r.objects core.no) e ∙ known.no;
-    })
+    let known = k.1 in (
+      words,
+      record {
+        nil = known.nil ∙ ap (λ (r : References). r.nil) (sym e);
+        yes = ap (λ (r : References). slice_get r.objects core.yes) e ∙ known.yes;
+        no = ap (λ (r : References). slice_get r.objects core.no) e ∙ known.no;
+      },
+    )

@@ -1,5 +1,4 @@
 pub mod Known
-pub mod Laws
 pub mod Keeping
 pub mod Fronts
 pub mod Serving

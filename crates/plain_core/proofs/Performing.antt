@@ -45,7 +45,7 @@ use Rattle.plain_core.specs.Language.{Language, IsSpoken}
 use Rattle.plain_core.specs.Turning.{StandsAt, Served, Breaks, Quiet, IsKnown, is_printing, Writes, on, ended}
 use Rattle.plain_core.specs.declared.turning.Turn.{Turn}
 use Rattle.plain_core.specs.declared.turning.Turn.TheVariants as turns
-use Rattle.plain_core.proofs.Laws.{primitives_ask, lacks_end, undefined_end, primitives_may_apply, fulls_end, failures_end, answers_turn}
+use Rattle.plain_turns.proofs.Primitives.{primitives_ask, lacks_end, undefined_end, primitives_may_apply, fulls_end, failures_end, answers_turn}
 use Rattle.plain_core.proofs.Fronts.{going_front, breaks_within, breaks_behind}
 use Rattle.plain_core.proofs.Serving.{quietly, quiet_as}
 

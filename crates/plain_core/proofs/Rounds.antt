@@ -14,7 +14,7 @@ use Rattle.plain_core.specs.Language.{Language, IsSpoken}
 use Rattle.plain_core.specs.Running.{CanRun, HasRunOn, HasBroken}
 use Rattle.plain_core.specs.Turning.{Broken, Breaks, CanGoOn, Next, IsLess, Ran, StandsAt, Went, far, still}
 use Rattle.plain_core.specs.declared.running.Counts.{Counts}
-use Rattle.plain_core.proofs.Laws.{runs_begin, traps_tell}
+use Rattle.plain_turns.proofs.Running.{runs_begin, traps_tell}
 use Rattle.plain_core.proofs.Fronts.{no_more, takes_more, then_more, taken_front}
 use Rattle.plain_core.proofs.Joining.{as_many, by_words, joined}
 

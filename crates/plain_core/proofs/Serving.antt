@@ -37,7 +37,13 @@ use Rattle.plain_core.specs.Language.{Language, IsSpoken}
 use Rattle.plain_core.specs.Turning.{StandsAt, Served, Quiet, Turned, on, again, ended}
 use Rattle.plain_core.specs.declared.turning.Turn.{Turn}
 use Rattle.plain_core.specs.declared.turning.Turn.TheVariants as turns
-use Rattle.plain_core.proofs.Laws.{traps_tell, goals_end, answers_end, stores_fill, returns_turn, messages_ask, fields_are_read, data_turns, assignments_turn, misses_end, methods_there, units_fit, units_turn, marks_may_be_tested, calls_turn, refusals_end}
+use Rattle.plain_turns.proofs.Answering.{data_turns, assignments_turn, misses_end}
+use Rattle.plain_turns.proofs.Asked.{messages_ask, fields_are_read}
+use Rattle.plain_turns.proofs.Ending.{goals_end, answers_end, stores_fill}
+use Rattle.plain_turns.proofs.Putting.{methods_there, units_fit, units_turn}
+use Rattle.plain_turns.proofs.Returning.{returns_turn}
+use Rattle.plain_turns.proofs.Running.{traps_tell}
+use Rattle.plain_turns.proofs.Served.{marks_may_be_tested, calls_turn, refusals_end}
 use Rattle.plain_core.proofs.Fronts.{no_more, takes_none}
 use Rattle.plain_core.proofs.Keeping.{unwound_entries, unwound_objects, unwound_current}
 
@@ -95,7 +101,7 @@ module _ (l : Language) (h : Host) (target : ℕ) where
   home_ended at over =
       let is : is_over home = λ sp pc known e. over sp pc known (ap (λ (k : ℕ). slice_get home.statuses k) (sym (unwound_current (target - count h - 1) (cost_left h) h)) ∙ e) in
       quietly l 4 h home target turns.Ended (Returns at.at.stands (target - count h - 1) (cost_left h)) (unwound_objects (target - count h - 1) (cost_left h) h)
-          (λ from out spoken x. ended ((returns_turn h from target out x).over is))
+      (λ from out spoken x. ended ((returns_turn h from target out x).over is))
 
 -- Those of messages.
 module _ (l : Language) (h : Host) (target room : ℕ) (at : StandsAt l h 1 target) (fits : h.next ≤ room) where
@@ -132,7 +138,7 @@ module _ (l : Language) (h : Host) (target room : ℕ) (at : StandsAt l h 1 targ
     unit_served memory none put =
         let a = asked l h target room at fits in
         quietly l 1 h _ target turns.On (Puts at.at.stands room (target - count h) (cost_left h) holder (behind_poll a.selector.args) c memory fits found put) refl
-            (λ from out spoken x. again (units_turn h from target out room x fits a holder c found none memory put))
+        (λ from out spoken x. again (units_turn h from target out room x fits a holder c found none memory put))
 
 -- What the calls tell, put together.
 

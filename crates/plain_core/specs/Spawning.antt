@@ -46,3 +46,5 @@ pub record IsReady (h to : Host) (c at : ℕ) : Type 0 where
   pub statuses : to.statuses ≡ h.statuses
   pub references : to.references ≡ h.references
   pub objects : to.next ≡ h.next
+  pub cost : to.cost ≡ h.cost
+  pub counted : to.machine.regs 3 ≡ h.machine.regs 3

@@ -36,7 +36,7 @@ use crate::running::RunErr;
 use io_ports::Sink;
 use object_maps::SlotKind;
 use plain_host::Hosting;
-use crate::printing::{PrintErr, print};
+use plain_prints::{PrintErr, print};
 use plain_runs::Status;
 use plain_words::owns_context;
 use prim_table::{CoreWords, PrimAnswer};
@@ -244,13 +244,7 @@ fn back_of(hosting: &Hosting, _walk: &Walk, _target: u64) -> u32
 }
 
 // The activity ends by an error of the node at whose trap the machine stands, and with it the run.
-fn fail(
-    hosting: &mut Hosting,
-    language: &Language,
-    trap: u8,
-    target: u64,
-    error: ErrorName,
-) -> Turn
+fn fail(hosting: &mut Hosting, language: &Language, trap: u8, target: u64, error: ErrorName) -> Turn
     requires at { StandsAt language.now (host hosting.old) trap target }
     requires small { target ≤ 2 ^ 61 }
     requires other { trap ≢ 9 }
@@ -264,13 +258,7 @@ fn fail(
 }
 
 // Data answers the message.
-fn answer(
-    hosting: &mut Hosting,
-    _walk: &Walk,
-    language: &Language,
-    target: u64,
-    word: u32,
-) -> Turn
+fn answer(hosting: &mut Hosting, _walk: &Walk, language: &Language, target: u64, word: u32) -> Turn
     requires at { StandsAt language.now (host hosting.old) 1 target }
     requires small { target ≤ 2 ^ 61 }
     requires room { (host hosting.old).next ≤ _walk.now }
@@ -543,13 +531,7 @@ fn send(
     ensures same { walk.new ≡ walk.old }
 {
     match find(hosting, walk, target) {
-        Found::NotUnderstood => Ok(miss(
-            hosting,
-            walk,
-            language,
-            target,
-            ErrorName::NotUnderstood,
-        )),
+        Found::NotUnderstood => Ok(miss(hosting, walk, language, target, ErrorName::NotUnderstood)),
         Found::Ambiguous { .. } => {
             Ok(miss(hosting, walk, language, target, ErrorName::Ambiguous))
         }
@@ -793,7 +775,9 @@ fn perform_known<K: Sink>(
     if MOST_COST < hosting.cost() + words as u64 {
         return Ok(fail_costly(hosting, language, target, prim, args, words));
     }
-    apply(hosting, alloc, walk, language, out, target, prim, args, words)
+    apply(
+        hosting, alloc, walk, language, out, target, prim, args, words,
+    )
 }
 
 // The service of a node at whose trap the machine stands, which is a primitive's.
@@ -829,9 +813,7 @@ fn perform_node<K: Sink>(
                 return Ok(lack(hosting, language, target, name, args, implied));
             }
             match language.primitive(name, args) {
-                None => Ok(fail_undefined(
-                    hosting, language, target, name, args, implied,
-                )),
+                None => Ok(fail_undefined(hosting, language, target, name, args, implied)),
                 Some(prim) => {
                     perform_known(hosting, alloc, walk, language, out, target, prim, args)
                 }
@@ -936,8 +918,4 @@ pub(crate) fn take_turn<K: Sink>(
             instructions: 0,
         }),
     }
-}
-
-pub(crate) fn is_blockless(body: &Body) -> bool {
-    body.outer.is_none() && !owns_context(body)
 }

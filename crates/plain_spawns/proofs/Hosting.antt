@@ -125,6 +125,9 @@ module _ (h : Host) (before : Words) (older : List Window) (ss : List Status) (h
   pub goal_kept : word_at to.machine.memory 0x30000000 ≡ word_at h.machine.memory 0x30000000
   goal_kept = first_low h memory ss rest run room c holder owned 0x30000000 (omega arith) ∙ rest.goal
 
+  pub left_kept : word_at to.machine.memory 0x30000004 ≡ word_at h.machine.memory 0x30000004
+  left_kept = first_low h memory ss rest run room c holder owned 0x30000004 (omega arith) ∙ rest.left
+
   pub hosted_then : IsHosted to
   hosted_then = record {
     within = first_within h memory ss rest run room c holder owned;

@@ -18,11 +18,12 @@ use Rattle.plain_runs.proofs.Working.{held_have_room, same_stack}
 use Rattle.plain_begins.proofs.Parking.{Parks, Lies, Ready, lying}
 use Rattle.plain_evaluates.proofs.Laid.{put_apart, put_within}
 
--- In this memory, which has the code and the goal of the host's, the activities with these statuses show what they showed.
+-- In this memory, which has the code of the host's, the goal and what is left of the plain cost, the activities with these statuses show what they showed.
 pub record Rests (h : Host) (memory : Words) (ss : List Status) : Type 0 where
   pub within : IsWithin memory
   pub code : SameCode h.machine.memory memory
   pub goal : word_at memory 0x30000000 ≡ word_at h.machine.memory 0x30000000
+  pub left : word_at memory 0x30000004 ≡ word_at h.machine.memory 0x30000004
   pub long : length ss ≡ length h.statuses
   pub laid : (k : ℕ) (x : Status) → slice_get ss k ≡ Some x → Lies h memory k x
   pub ready : (k : ℕ) (x : Status) → slice_get ss k ≡ Some x → Ready h memory k x
@@ -74,6 +75,7 @@ rests_on h run memory ss park top ws low room =
       within = put_within ws memory top park.within;
       code = λ b lt. put_apart ws memory top b (inl (omega (arith, lt, low))) ∙ park.low b (omega (arith, lt));
       goal = put_apart ws memory top 0x30000000 (inr (omega (arith, room))) ∙ park.low 0x30000000 (omega arith);
+      left = put_apart ws memory top 0x30000004 (inr (omega (arith, room))) ∙ park.low 0x30000004 (omega arith);
       long = park.long;
       laid = λ k x e. lies_on h run memory new same k x (park.laid k x e);
       ready = λ k x e. ready_on h run memory new same k x (park.laid k x e) (park.ready k x e);

@@ -35,7 +35,7 @@ use Rattle.plain_evaluates.proofs.Heaped.{framed_in_heap}
 use Rattle.plain_evaluates.proofs.Initials.{initials_are}
 use Rattle.plain_spawns.specs.Spawns.{first_context, ActivitiesBegin}
 use Rattle.plain_spawns.proofs.Filled.{first_place, there_first, stack_first}
-use Rattle.plain_spawns.proofs.Hosting.{begins_from, goal_kept, hosted_then, first_node, runs_then, first_entry, raw_then}
+use Rattle.plain_spawns.proofs.Hosting.{begins_from, goal_kept, left_kept, hosted_then, first_node, runs_then, first_entry, raw_then}
 use Rattle.plain_spawns.proofs.Resting.{rests_on}
 use Rattle.plain_spawns.proofs.Spawning.{opened, RawBegun, raw_begins}
 
@@ -85,7 +85,10 @@ starts z h s f hosted run memory older ss park room o c holder lobby at o_is lob
       all = λ b. run b;
       current = room;
       goal = goal_kept h memory older ss hosted run room c.0 at lobby holder unit owned some rest;
+      left = left_kept h memory older ss hosted run room c.0 at lobby holder unit owned some rest;
       counted = refl;
+      sum = refl;
+      paid = omega arith;
       first = (first_node h memory older ss hosted run room c.0 at lobby holder unit owned some rest).0;
       runs = runs_then h memory older ss hosted run room c.0 at lobby holder unit owned some rest;
       state = raw.state;

@@ -77,6 +77,9 @@ module _ (h : Host) (memory : Words) (ss : List Status) (park : Parks h memory s
   pub goal_kept : word_at to.machine.memory 0x30000000 ≡ word_at h.machine.memory 0x30000000
   goal_kept = park.low 0x30000000 (omega arith)
 
+  pub left_kept : word_at to.machine.memory 0x30000004 ≡ word_at h.machine.memory 0x30000004
+  left_kept = park.low 0x30000004 (omega arith)
+
   shows_here : (j : ℕ) (x : Status) → j ≡ k → Sees h memory m x → thread_of to j x ≡ lying h memory x
   shows_here j (Waiting sp pc count) same e =
       ap (λ q. Going (if q then seen to else waiting to sp pc count)) (is_current j k same)

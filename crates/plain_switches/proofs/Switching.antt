@@ -30,16 +30,15 @@ use Rattle.plain_runs.proofs.Keeping.{unit_kept}
 use Rattle.plain_runs.proofs.Ready.{there_at}
 use Rattle.plain_runs.proofs.Working.{held_have_room}
 use Rattle.plain_steps.specs.Steps.{StandsFor}
+use Rattle.plain_steps.specs.Paying.{IsPaid}
 use Rattle.plain_begins.specs.Begins.{CanPark, AtPoll, Idle}
 use Rattle.plain_begins.proofs.Parking.{Parks, idle_parks, running_parks, flushed_registers, flushed_windows, flushed_memory, parked_status, entry_place}
 use Rattle.plain_begins.proofs.Hosting.{lain}
 use Rattle.plain_begins.proofs.Starting.{activities_agree}
-use Rattle.plain_stretches.specs.Stretches.{IsBlockless}
-use Rattle.plain_turns.specs.Rooms.{HasRoom}
-use Rattle.plain_turns.specs.Resting.{Rests}
+use Rattle.plain_turns.specs.Resting.{IsReady, Rests}
 use Rattle.plain_switches.specs.Switching.{in_frame, taken_up_by, comes_up, switches}
 use Rattle.plain_switches.specs.Resting.{with_current, FramesMayComeUp, Switched, SwitchesCount, SwitchesShow, SwitchesStand, SwitchesCome, SwitchesRest}
-use Rattle.plain_switches.proofs.Coming.{Sees, coming, goal_kept, hosted_then, threads_then, runs_then}
+use Rattle.plain_switches.proofs.Coming.{Sees, coming, goal_kept, left_kept, hosted_then, threads_then, runs_then}
 
 -- What holds of a host with another current activity.
 record Comes (h : Host) (k : ℕ) (to : Host) : Type 0 where
@@ -49,8 +48,7 @@ record Comes (h : Host) (k : ℕ) (to : Host) : Type 0 where
   raw : raw_of to ≡ record (raw_of h) { current = k }
   counts : Switched h to
   stands : (z : Sense) (s : State) → StandsFor z h s → StandsFor z to (with_current k s)
-  plain : IsBlockless h → IsBlockless to
-  room : HasRoom h → HasRoom to
+  ready : IsReady h → IsReady to
   parks : CanPark to
 
 -- what stood for a state stands for it with another current activity
@@ -95,10 +93,13 @@ module _ (h : Host) (memory : Words) (ss : List Status) (park : Parks h memory s
     all = λ b. run b;
     current = refl;
     raw = shows;
-    counts = record { sum = refl; counted = steps; costs = refl; cost = cost; top = top; next = refl; goal = goal_kept h memory ss park hosted run k m zero_is windows sees };
+    counts = record { sum = refl; counted = steps; costs = refl; cost = cost; top = top; next = refl; goal = goal_kept h memory ss park hosted run k m zero_is windows sees; left = left_kept h memory ss park hosted run k m zero_is windows sees };
     stands = stands_then;
-    plain = λ p. record { fit = p.fit; units = p.units };
-    room = λ r. record { each = r.each; left = r.left; lobby = r.lobby };
+    ready = λ x. record {
+      fit = x.fit;
+      room = record { each = x.room.each; left = x.room.left; lobby = x.room.lobby };
+      maps = record { few = x.maps.few; bodies = x.maps.bodies; contexts = x.maps.contexts; blocks = x.maps.blocks };
+    };
     parks = parks;
   }
 
@@ -175,10 +176,9 @@ stays h k hosted run parks same =
       all = run;
       current = sym same;
       raw = ap (λ (c : ℕ). (let y : Raw = record (raw_of h) { current = c } in y)) (sym same);
-      counts = record { sum = refl; counted = refl; costs = refl; cost = refl; top = refl; next = refl; goal = refl };
+      counts = record { sum = refl; counted = refl; costs = refl; cost = refl; top = refl; next = refl; goal = refl; left = refl };
       stands = λ z s f. (let P : ℕ → Type 0 = λ c. StandsFor z h (with_current c s) in subst P (sym f.stands.current ∙ sym same) f);
-      plain = λ p. p;
-      room = λ r. r;
+      ready = λ x. x;
       parks = parks;
     }
 
@@ -215,6 +215,9 @@ switches_come h q k r lt stop =
 formed_then : (h : Host) (s : State) (k : ℕ) → Rests h s → k < length h.statuses → IsWellFormed (with_current k s)
 formed_then h s k r lt = subst (λ (y : Reached). IsWellFormed y.state) (switches_come h (silent s) k r lt 0) (commands_form (Switch (k + 1)) 0 (silent s) tt r.formed)
 
+still_paid : (h to : Host) (start : ℕ) → Switched h to → IsPaid start h → IsPaid start to
+still_paid h to start x p = record { room = p.room; top = omega (arith, p.top, x.costs, x.cost, x.top); left = omega (arith, p.left, x.left, x.costs) }
+
 pub switches_rest : SwitchesRest
 switches_rest h s k r lt =
     let c = resting h s k r lt in
@@ -224,8 +227,9 @@ switches_rest h s k r lt =
         sound = switches_stand h s k r lt;
         parks = c.parks;
         formed = formed_then h s k r lt;
-        plain = c.plain r.plain;
-        room = c.room r.room;
+        ready = c.ready r.ready;
+        start = r.start;
+        paid = still_paid h (switches k h) r.start c.counts r.paid;
       };
       same = refl;
     }

@@ -1,6 +1,7 @@
 // The rows: what the whole program writes for a world and a script, and its status, over devices in memory.
 //
-// It has tests alone. The expected texts and statuses were worked out by hand from the language's rules.
+// It has tests alone. The expected texts and statuses were worked out by hand from the language's rules, but for a few of
+// blocks and primitives, which `tools/plain.py` wrote.
 #![tactic(auto)]
 
 #[cfg(test)]

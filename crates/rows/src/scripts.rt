@@ -14,7 +14,7 @@ a = ( | m = ( 1 ) | ).~b = ( | m = ( 2 ) | ).~p* = a.~q* = b.~m = ( 3 ).~;spawn 
 a = ( | m = ( x ). x = 7 | ).~p* = a.~;spawn m~run 9~;activity 1~done 7 at 2~;0
 a = ( | m = ( self ) | ).~p* = a.~;spawn m~run 9~;activity 1~done lobby at 2~;0
 x = 3.~y <- 4.~z.~up* = lobby.~;spawn x~spawn y~spawn z~spawn up~spawn lobby~run 1~;refused not a method~refused not a method~refused not a method~refused not a method~refused not a method~refused no activity~;0
-m = ( [ 3 ] ).~main = ( 3 ).~;spawn m~run 1~spawn main~run 9~;refused notBuilt~refused no activity~activity 1~done 3 at 2~;0
+m = ( [ 3 ] ).~main = ( 3 ).~;spawn m~run 1~spawn main~run 9~;activity 1~stop at 1 line 10:13~activity 2~done 3 at 3~;0
 main: a = ( a ).~;spawn main~run 1~;refused notUnderstood~refused no activity~;0
 main = ( 3 _IntAdd: 4 ).~;spawn main~spawn main~spawn main~spawn main~spawn main~run 9~;activity 1~activity 2~activity 3~activity 4~refused too many activities~done 7 at 4~;0
 main = ( 3 _IntAdd: 4 ).~;spawn main~spawn main~spawn main~spawn main~spawn zork~;activity 1~activity 2~activity 3~activity 4~refused too many activities~;0

@@ -105,25 +105,25 @@ a: x = ( | t <- 2. u = 7 | t: t + u. x - t ).~main = ( a: 10 ).~;spawn main~run 
 main = ( 10 - (3 - 2) ).~;spawn main~run 10000000~;activity 1~done 9 at 12~;0
 o = ( | = n = ( n ) | ).~main = ( o = 6 ).~;spawn main~run 10000000~;activity 1~done 6 at 6~;0";
 
-// Errors of messages, of sums and differences, and nodes that are not built.
+// Errors of messages and primitives, primitives that answer, and handlers that are not built.
 const ERRORS: &str = "\
 main = ( 3 zork ).~;spawn main~run 1~run 1~run 1~;activity 1~stop at 1 line 10:12~error notUnderstood at 1 line 10:12~refused ended~;0
 main = ( 3 + zork ).~;spawn main~run 10000000~;activity 1~error notUnderstood at 1 line 10:14~;0
 f: n = ( n zork ).~main = ( 1. 2 + (f: 3) ).~;spawn main~run 10000000~run 1~;activity 1~error notUnderstood at 6 line 10:12~refused ended~;0
 main = ( true ifTrue: 1 False: 2 ).~;spawn main~run 10000000~;activity 1~error notUnderstood at 5 line 2:54~;0
-m = ( [ 3 ] ).~main = ( 7. m ).~;spawn main~run 10000000~run 1~;activity 1~error notBuilt at 2 line 11:13~refused ended~;0
-main = ( 3 < 4 ).~;spawn main~run 10000000~;activity 1~error notBuilt at 4 line 5:9~;0
-main = ( 3 = 4 ).~;spawn main~run 10000000~;activity 1~error notBuilt at 4 line 5:30~;0
+m = ( [ 3 ] ).~main = ( 7. m ).~;spawn main~run 10000000~run 1~;activity 1~done [12@-] at 6~refused ended~;0
+main = ( 3 < 4 ).~;spawn main~run 10000000~;activity 1~done true at 7~;0
+main = ( 3 = 4 ).~;spawn main~run 10000000~;activity 1~done false at 7~;0
 main = ( 536870911 + 1 ).~;spawn main~run 10000000~;activity 1~error overflowError at 4 line 4:46~;0
 main = ( 1 - 536870911 - 1 - 1 ).~;spawn main~run 10000000~;activity 1~done -536870912 at 17~;0
-main = ( 7 _IntMul: 2 ).~;spawn main~run 10000000~;activity 1~error notBuilt at 2 line 10:12~;0
+main = ( 7 _IntMul: 2 ).~;spawn main~run 10000000~;activity 1~done 14 at 4~;0
 main = ( 3 _IntAdd: nil ).~;spawn main~run 10000000~;activity 1~error badTypeError at 2 line 10:12~;0
 main = ( _IntAdd: 3 ).~;spawn main~run 10000000~;activity 1~error badTypeError at 1 line 10:10~;0
 main = ( 3 + nil ).~;spawn main~run 10000000~;activity 1~error badTypeError at 4 line 4:46~;0
-main = ( 3 _IntPrint ).~;spawn main~run 10000000~;activity 1~error notBuilt at 1 line 10:12~;0
-main = ( 'ab' print ).~;spawn main~run 10000000~;activity 1~error notBuilt at 2 line 6:47~;0
-main = ( _Clone ).~;spawn main~run 10000000~;activity 1~error notBuilt at 0 line 10:10~;0
-main = ( 3 _Zork: 4 ).~;spawn main~run 10000000~;activity 1~error notBuilt at 2 line 10:12~;0
+main = ( 3 _IntPrint ).~;spawn main~run 10000000~;activity 1~out 3~done 3 at 3~;0
+main = ( 'ab' print ).~;spawn main~run 10000000~;activity 1~out ab~done #8 at 5~;0
+main = ( _Clone ).~;spawn main~run 10000000~;activity 1~done #34 at 2~;0
+main = ( 3 _Zork: 4 ).~;spawn main~run 10000000~;activity 1~error primitiveNotDefined at 2 line 10:12~;0
 main = ( 536870911 _IntAdd: 1 IfFail: 0 ).~;spawn main~run 10000000~;activity 1~error notBuilt at 3 line 10:20~;0
 main = ( 3 _IntAdd: 4 IfFail: 0 ).~;spawn main~run 10000000~;activity 1~done 7 at 5~;0
 main = ( 3 _IntAdd: true ).~;spawn main~run 10000000~;activity 1~error badTypeError at 2 line 10:12~;0

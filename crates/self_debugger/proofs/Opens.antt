@@ -1,5 +1,5 @@
 -- A session over the world of a file can be opened.
-use Rattle.std.specs.Prelude.{◌≡◌, ℕ, ◌≤◌, true, List, refl}
+use Rattle.std.specs.Prelude.{◌≡◌, true, refl}
 use Rattle.std.proofs.Common.{arith}
 use Rattle.self_reader.specs.declared.texts.TheConstants.{LIMITS}
 use Rattle.self_reader.specs.Texts.{known}

@@ -23,7 +23,7 @@ put_unit-requires-clause-room c =
     let h = host c.args.hosting.now in
     let m = is_found h c.requires.rests.0 c.requires.rests.1 c.args._name.0 c.args._lobby c.args._walk.now c.requires.lobby c.requires.room c.args._holder c.args.body c.requires.found in
     let none : slice_get h.entries (c.args.body.0 - 1) ≡ Some 0 = sym c.entry_of.ensures ∙ c.in-Some-eq0.is ∙ ap Some c.in-Some-eq0.field-0-test in
-    unit_fits h h c.requires.rests.0 c.args.body c.requires.rests.1 m none c.requires.plain
+    unit_fits h h c.requires.rests.0 c.args.body c.requires.rests.1 m none
 
 pub returns-in_ok-at-in-Some-eq0-clause-ready : goal.returns-in_ok-at-in-Some-eq0-clause-ready
 returns-in_ok-at-in-Some-eq0-clause-ready c =
@@ -31,7 +31,7 @@ returns-in_ok-at-in-Some-eq0-clause-ready c =
     let m = is_found h c.requires.rests.0 c.requires.rests.1 c.args._name.0 c.args._lobby c.args._walk.now c.requires.lobby c.requires.room c.args._holder c.args.body c.requires.found in
     let none : slice_get h.entries (c.args.body.0 - 1) ≡ Some 0 = sym c.entry_of.ensures ∙ c.in-Some-eq0.is ∙ ap Some c.in-Some-eq0.field-0-test in
     let e = c.in_ok-at-in-Some-eq0.ensures in
-    ready_put h (host c.put_unit.new.self) c.requires.rests.0 c.args.body c.requires.rests.1 m none c.requires.plain c.in_ok-at-in-Some-eq0.at e.at e.unit e.code e.apart c.is_whole.ensures.machine
+    ready_put h (host c.put_unit.new.self) c.requires.rests.0 c.args.body c.requires.rests.1 m none c.in_ok-at-in-Some-eq0.at e.at e.unit e.code e.apart c.is_whole.ensures.machine
 
 pub returns-in-Some-clause-ready : goal.returns-in-Some-clause-ready
 returns-in-Some-clause-ready c =
@@ -45,7 +45,7 @@ returns-in_ok-at-in-Some-eq0-clause-led c =
     let m = is_found h c.requires.rests.0 c.requires.rests.1 c.args._name.0 c.args._lobby c.args._walk.now c.requires.lobby c.requires.room c.args._holder c.args.body c.requires.found in
     let none : slice_get h.entries (c.args.body.0 - 1) ≡ Some 0 = sym c.entry_of.ensures ∙ c.in-Some-eq0.is ∙ ap Some c.in-Some-eq0.field-0-test in
     let e = c.in_ok-at-in-Some-eq0.ensures in
-    put_leads h (host c.put_unit.new.self) c.requires.rests.0 c.args.body c.requires.rests.1 m none c.requires.plain e.unit e.code e.apart c.is_whole.ensures.machine c.args._walk.now
+    put_leads h (host c.put_unit.new.self) c.requires.rests.0 c.args.body c.requires.rests.1 m none e.unit e.code e.apart c.is_whole.ensures.machine
 
 pub returns-in_ok-at-in-Some-eq0-clause-finds : goal.returns-in_ok-at-in-Some-eq0-clause-finds
 returns-in_ok-at-in-Some-eq0-clause-finds c =
@@ -53,7 +53,7 @@ returns-in_ok-at-in-Some-eq0-clause-finds c =
     let m = is_found h c.requires.rests.0 c.requires.rests.1 c.args._name.0 c.args._lobby c.args._walk.now c.requires.lobby c.requires.room c.args._holder c.args.body c.requires.found in
     let none : slice_get h.entries (c.args.body.0 - 1) ≡ Some 0 = sym c.entry_of.ensures ∙ c.in-Some-eq0.is ∙ ap Some c.in-Some-eq0.field-0-test in
     let e = c.in_ok-at-in-Some-eq0.ensures in
-    put_finds h (host c.put_unit.new.self) c.requires.rests.0 c.args.body c.requires.rests.1 m none c.requires.plain e.unit e.code e.apart c.is_whole.ensures.machine c.args._walk.now c.args._lobby c.args._name.0 c.args._holder c.requires.lobby c.requires.found
+    put_finds h (host c.put_unit.new.self) c.requires.rests.0 c.args.body c.requires.rests.1 m none e.unit e.code e.apart c.is_whole.ensures.machine c.args._walk.now c.args._lobby c.args._name.0 c.args._holder c.requires.lobby c.requires.found
 
 pub returns-in-Some-clause-led : goal.returns-in-Some-clause-led
 returns-in-Some-clause-led c = Stays

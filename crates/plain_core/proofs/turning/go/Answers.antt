@@ -12,7 +12,7 @@ use Rattle.source_model.specs.State.{State}
 use Rattle.plain_turns.specs.Resting.{IsGoing, IsAtTrap}
 use Rattle.plain_turns.specs.Turns.{Comes}
 use Rattle.plain_core.specs.Turning.{Came}
-use Rattle.plain_core.proofs.Laws.{runs_come}
+use Rattle.plain_turns.proofs.Running.{runs_come}
 use Rattle.plain_core.proofs.turning.go.Goals as goal
 
 comes : (h : Host) (from : State) (target : ℕ) (out : List ℕ) (g : IsGoing h from target out) → Comes h from target out 1099511627776 g

@@ -1,5 +1,4 @@
 use Rattle.std.proofs.Common.{sym, ap, ◌∙◌, arith}
-use Rattle.plain_host.specs.Hosted.{host}
 use Rattle.plain_runs.specs.Host.{Host}
 use Rattle.world_build.specs.Worlds.{World}
 use Rattle.plain_session.proofs.Naming.{names_are}

@@ -1,0 +1,4 @@
+mod Taking
+mod Piecing
+mod Reading
+mod Telling

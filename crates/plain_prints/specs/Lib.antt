@@ -1,0 +1,3 @@
+-- The lines that primitives print.
+pub mod Printing
+pub mod Lines
