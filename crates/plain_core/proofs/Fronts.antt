@@ -1,6 +1,6 @@
 -- What a sink took is a front of what the source prints.
 use Rattle.std.proofs.Common.{◌≡◌, ℕ, zero, suc, ◌+◌, ◌-◌, ◌≤◌, List, [], ◌∷◌, ◌++◌, refl, ◌∙◌, ap, sym, subst, arith}
-use Rattle.std.specs.Prelude.{Option, Some, None, length, take, drop}
+use Rattle.std.specs.Prelude.{Option, Some, None, Result, Ok, Err, OnErr, length, take, drop}
 use Rattle.io_ports.specs.Causes.{Takes, TakesFront}
 use Rattle.source_model.specs.State.{State, Reached, silent}
 use Rattle.plain_runs.specs.Host.{Host}
@@ -11,6 +11,11 @@ use Rattle.plain_turns.specs.Resting.{IsGoing, IsAtTrap, HasRun}
 use Rattle.plain_core.specs.Language.{Language, IsSpoken}
 use Rattle.plain_core.specs.Turning.{Breaks}
 use Rattle.plain_stretches.proofs.Joining.{runs_join}
+
+-- what holds of every error
+pub any_err : {T E : Type 0} (P : Type 0) (r : Result T E) → P → OnErr r P
+any_err P (Ok x) p = tt
+any_err P (Err e) p = p
 
 pub no_more : (xs : List ℕ) → xs ++ [] ≡ xs
 no_more [] = refl

@@ -1,5 +1,5 @@
 //! What the host knows of the language in a session: its names, which of them are those of primitives, and the objects that the language itself knows.
-ghost use Rattle.std.specs.Prelude.{◌≡◌, map, IfOk};
+ghost use Rattle.std.specs.Prelude.{◌≡◌, map, slice_get, IfOk};
 ghost use Rattle.source_model.specs.Names.{text_named};
 ghost use Rattle.prim_table.specs.Kinds.{args_of, kind_of};
 ghost use Rattle.prim_table.specs.Named.{prim_named};
@@ -80,6 +80,13 @@ fn rows_of(alloc: Global, names: &Names) -> Result<Vec<Option<Primitive>>, OutOf
     Ok(rows)
 }
 
+// The primitive at a number; none past the last.
+fn row_at(rows: &Vec<Option<Primitive>>, at: usize) -> Option<Option<Primitive>>
+    ensures { result ≡ slice_get rows.now.items at }
+{
+    rows.get(at).copied()
+}
+
 impl Language {
     /// The language of a session with these names, which knows these objects.
     pub fn open(alloc: Global, names: Names, core: Core) -> Result<Language, OutOfMemory>
@@ -110,9 +117,9 @@ impl Language {
         if name.0 == 0 {
             return None;
         }
-        match self.rows.get(name.0 as usize - 1) {
+        match row_at(&self.rows, name.0 as usize - 1) {
             None => None,
-            Some(prim) => taking(args, *prim),
+            Some(prim) => taking(args, prim),
         }
     }
 }

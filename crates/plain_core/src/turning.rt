@@ -210,6 +210,7 @@ fn find_for(hosting: &Hosting, walk: &mut Walk, node: Node, _target: u64) -> Fou
 // What the message of the node meets at whose trap the machine stands.
 fn find(hosting: &Hosting, walk: &mut Walk, target: u64) -> Found
     requires asked { IsAsked (host hosting.now) target walk.old }
+    requires low { (host hosting.now).machine.pc + 4 < 2 ^ 32 }
     ensures found { result ≡ found_here walk.old (host hosting.now) }
     ensures room { walk.new ≡ walk.old }
 {
@@ -235,6 +236,7 @@ fn arguments_of(node: Node) -> u32
 // How many bytes before the trap of its message the node's poll stands.
 fn back_of(hosting: &Hosting, _walk: &Walk, _target: u64) -> u32
     requires asked { IsAsked (host hosting.now) _target _walk.now }
+    requires low { (host hosting.now).machine.pc + 4 < 2 ^ 32 }
     ensures { (selector : Selector) → option_and_then selector_of (node_here (host hosting.now)) ≡ Some selector → result ≡ behind_poll selector.args }
 {
     match node_here(hosting) {

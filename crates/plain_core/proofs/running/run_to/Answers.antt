@@ -1,7 +1,7 @@
 use Rattle.std.proofs.Common.{ℕ, ◌+◌, List, [], ◌++◌, refl, ◌∙◌, arith}
 use Rattle.std.specs.Prelude.{Some}
 use Rattle.plain_host.specs.Hosted.{host}
-use Rattle.plain_core.proofs.Fronts.{takes_none, takes_more}
+use Rattle.plain_core.proofs.Fronts.{any_err, takes_none, takes_more}
 use Rattle.plain_core.proofs.Joining.{joined}
 use Rattle.plain_core.proofs.Keeping.{reaches_keep, went_keep, known_keeps}
 use Rattle.plain_core.proofs.Rounds.{none_at, at_trap, next_none, next_more, goes_reached, still_room, few_turns, one_less, still_at, broken_on}
@@ -53,11 +53,8 @@ loop-at-preserved g c =
       room = c.in_ok-turn.ensures.roomy;
       same = reaches_keep (host c.loop-at.hosting) (host c.take_turn.new.hosting) turn.instructions 1 on.reached ∙ inv.same;
       stands = (s.0, s.1, s.2 ++ on.said, on.at s.0 s.2 s.1 (at_trap (host c.loop-at.hosting) s.0 c.args.target s.2 c.in-Some.trap c.loop-at.at c.in-Some.is s.3));
-      said = (
-        inv.said.0 ++ on.said,
-        takes_more (g.K.Sink.taken c.args.out.now) (g.K.Sink.taken c.loop-at.out) (g.K.Sink.taken c.take_turn.new.out) inv.said.0 on.said inv.said.1 on.takes,
-        λ from out spoken x. next_more (host c.take_turn.new.hosting) from c.args.target out inv.said.0 on.said turn.next (on.at from (out ++ inv.said.0) spoken (at_trap (host c.loop-at.hosting) from c.args.target (out ++ inv.said.0) c.in-Some.trap c.loop-at.at c.in-Some.is (inv.said.2 from out spoken x))),
-      );
+      said = (inv.said.0 ++ on.said, takes_more (g.K.Sink.taken c.args.out.now) (g.K.Sink.taken c.loop-at.out) (g.K.Sink.taken c.take_turn.new.out) inv.said.0 on.said inv.said.1 on.takes,
+          λ from out spoken x. next_more (host c.take_turn.new.hosting) from c.args.target out inv.said.0 on.said turn.next (on.at from (out ++ inv.said.0) spoken (at_trap (host c.loop-at.hosting) from c.args.target (out ++ inv.said.0) c.in-Some.trap c.loop-at.at c.in-Some.is (inv.said.2 from out spoken x))));
       reached = joined (host c.args.hosting.now) (host c.loop-at.hosting) (host c.take_turn.new.hosting) c.loop-at.instructions c.loop-at.services turn.instructions 1 inv.reached on.reached;
       served = omega (arith, served, less, here);
       taken = omega (arith, taken, less, here, few);
@@ -73,7 +70,7 @@ returns-clause-runs g c =
       ran = λ from out spoken x. none_at (host c.loop-at.hosting) from c.args.target (out ++ inv.said.0) c.loop-at.at c.in_default.is (inv.said.2 from out spoken x);
     }
 
-pub err-turn-clause-broken : goal.err-turn-clause-broken
-err-turn-clause-broken g c =
+pub returns-in_err-turn-clause-broken : goal.returns-in_err-turn-clause-broken
+returns-in_err-turn-clause-broken g c =
     let inv = c.loop-at.invariant in
-    broken_on c.args.language.now (host c.args.hosting.now) (host c.loop-at.hosting) c.in-Some.trap c.args.target c.loop-at.at (g.K.Sink.taken c.args.out.now) (g.K.Sink.taken c.loop-at.out) (g.K.Sink.taken c.take_turn.new.out) inv.said.0 inv.said.1 inv.said.2 c.in-Some.is c.in_err-turn.ensures.broken
+    any_err _ c.from_residual.result (broken_on c.args.language.now (host c.args.hosting.now) (host c.loop-at.hosting) c.in-Some.trap c.args.target c.loop-at.at (g.K.Sink.taken c.args.out.now) (g.K.Sink.taken c.loop-at.out) (g.K.Sink.taken c.take_turn.new.out) inv.said.0 inv.said.1 inv.said.2 c.in-Some.is c.in_err-turn.ensures.broken)

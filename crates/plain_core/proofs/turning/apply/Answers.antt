@@ -6,6 +6,7 @@ use Rattle.plain_turns.specs.Asking.{cost_left, place_here}
 use Rattle.plain_host.specs.Hosted.{host}
 use Rattle.plain_core.specs.Turning.{StandsAt}
 use Rattle.plain_core.specs.declared.turning.Turn.TheVariants as turns
+use Rattle.plain_core.proofs.Fronts.{any_err}
 use Rattle.plain_core.proofs.Serving.{quiet_as}
 use Rattle.plain_core.proofs.Performing.{may, was_so, failed_same, failure_served, operand_after, says, performed_is, objects_after, answer_served, answer_breaks, answer_breaks_within}
 use Rattle.plain_core.proofs.turning.apply.Goals as goal
@@ -48,7 +49,7 @@ returns-in_err-write_line-in-Done-clause-broken g c =
     let core = c.core_words-core.result in
     let was = was_so h c.args.prim c.args.args core to.machine.memory applied.heap applied.answer (answers.Done c.in-Done.word) c.in-Done.is (record { answers = told.answer; outside = told.outside; within = c.is_whole.ensures.machine.memory_within }) in
     let front = c.in_err-write_line-in-Done.ensures.front in
-    answer_breaks_within l h c.args.target c.requires.at c.args.prim c.args.args c.requires.known core c.core_words-core.ensures to applied.heap told.same c.in-Done.word c.args.words was c.requires.costs c.requires.fits (g.K.Sink.taken c.args.out.now) (g.K.Sink.taken c.write_line.new.out) front.0 (says l h c.args.target c.requires.at c.args.prim c.args.args c.requires.known core c.core_words-core.ensures to applied.heap told.same c.in-Done.word c.args.words was c.requires.costs c.requires.fits front.0 front.1) front.2
+    any_err _ c.from_residual.result (answer_breaks_within l h c.args.target c.requires.at c.args.prim c.args.args c.requires.known core c.core_words-core.ensures to applied.heap told.same c.in-Done.word c.args.words was c.requires.costs c.requires.fits (g.K.Sink.taken c.args.out.now) (g.K.Sink.taken c.write_line.new.out) front.0 (says l h c.args.target c.requires.at c.args.prim c.args.args c.requires.known core c.core_words-core.ensures to applied.heap told.same c.in-Done.word c.args.words was c.requires.costs c.requires.fits front.0 front.1) front.2)
 
 pub make_room-requires : goal.make_room-requires
 make_room-requires g c =
@@ -75,7 +76,7 @@ returns-in_err-make_room-in-Done-clause-broken g c =
     let core = c.core_words-core.result in
     let was = was_so h c.args.prim c.args.args core to.machine.memory applied.heap applied.answer (answers.Done c.in-Done.word) c.in-Done.is (record { answers = told.answer; outside = told.outside; within = c.is_whole.ensures.machine.memory_within }) in
     let said = c.in_ok-write_line-in-Done.ensures.said in
-    answer_breaks l h c.args.target c.requires.at c.args.prim c.args.args c.requires.known core c.core_words-core.ensures to applied.heap told.same c.in-Done.word c.args.words was c.requires.costs c.requires.fits (g.K.Sink.taken c.args.out.now) (g.K.Sink.taken c.write_line.new.out) said.0 (says l h c.args.target c.requires.at c.args.prim c.args.args c.requires.known core c.core_words-core.ensures to applied.heap told.same c.in-Done.word c.args.words was c.requires.costs c.requires.fits said.0 said.1) said.2
+    any_err _ c.from_residual-in_err-make_room-in-Done.result (answer_breaks l h c.args.target c.requires.at c.args.prim c.args.args c.requires.known core c.core_words-core.ensures to applied.heap told.same c.in-Done.word c.args.words was c.requires.costs c.requires.fits (g.K.Sink.taken c.args.out.now) (g.K.Sink.taken c.write_line.new.out) said.0 (says l h c.args.target c.requires.at c.args.prim c.args.args c.requires.known core c.core_words-core.ensures to applied.heap told.same c.in-Done.word c.args.words was c.requires.costs c.requires.fits said.0 said.1) said.2)
 
 pub returns-in-Fails-clause-served : goal.returns-in-Fails-clause-served
 returns-in-Fails-clause-served g c =

@@ -4,8 +4,8 @@ use Rattle.plain_runs.specs.Host.{Host}
 use Rattle.plain_core.proofs.Serving.{asked, method_there, unit_fits, back_is, is_put, unit_put}
 use Rattle.plain_core.proofs.turning.put.Goals as goal
 
-pub back_of-back-requires : goal.back_of-back-requires
-back_of-back-requires c = record { asked = asked _ _ _ _ c.requires.at c.requires.room }
+pub back_of-back-requires-clause-asked : goal.back_of-back-requires-clause-asked
+back_of-back-requires-clause-asked c = asked _ _ _ _ c.requires.at c.requires.room
 
 pub put_unit-requires-clause-given : goal.put_unit-requires-clause-given
 put_unit-requires-clause-given c = (method_there _ _ _ _ c.requires.at c.requires.room _ _ c.requires.found).body.0
