@@ -53,8 +53,11 @@ loop-at-preserved g c =
       room = c.in_ok-turn.ensures.roomy;
       same = reaches_keep (host c.loop-at.hosting) (host c.take_turn.new.hosting) turn.instructions 1 on.reached ∙ inv.same;
       stands = (s.0, s.1, s.2 ++ on.said, on.at s.0 s.2 s.1 (at_trap (host c.loop-at.hosting) s.0 c.args.target s.2 c.in-Some.trap c.loop-at.at c.in-Some.is s.3));
-      said = (inv.said.0 ++ on.said, takes_more (g.K.Sink.taken c.args.out.now) (g.K.Sink.taken c.loop-at.out) (g.K.Sink.taken c.take_turn.new.out) inv.said.0 on.said inv.said.1 on.takes,
-          λ from out spoken x. next_more (host c.take_turn.new.hosting) from c.args.target out inv.said.0 on.said turn.next (on.at from (out ++ inv.said.0) spoken (at_trap (host c.loop-at.hosting) from c.args.target (out ++ inv.said.0) c.in-Some.trap c.loop-at.at c.in-Some.is (inv.said.2 from out spoken x))));
+      said = (
+        inv.said.0 ++ on.said,
+        takes_more (g.K.Sink.taken c.args.out.now) (g.K.Sink.taken c.loop-at.out) (g.K.Sink.taken c.take_turn.new.out) inv.said.0 on.said inv.said.1 on.takes,
+        λ from out spoken x. next_more (host c.take_turn.new.hosting) from c.args.target out inv.said.0 on.said turn.next (on.at from (out ++ inv.said.0) spoken (at_trap (host c.loop-at.hosting) from c.args.target (out ++ inv.said.0) c.in-Some.trap c.loop-at.at c.in-Some.is (inv.said.2 from out spoken x))),
+      );
       reached = joined (host c.args.hosting.now) (host c.loop-at.hosting) (host c.take_turn.new.hosting) c.loop-at.instructions c.loop-at.services turn.instructions 1 inv.reached on.reached;
       served = omega (arith, served, less, here);
       taken = omega (arith, taken, less, here, few);
