@@ -1,8 +1,8 @@
 -- What a sink took of two lines, one after the other.
 use Rattle.std.proofs.Common.{◌≡◌, ℕ, ◌+◌, ◌≤◌, List, ◌++◌, length, take, append_assoc, append-nil, arith, length-append, ap, sym, subst, []}
-use Rattle.std.specs.Prelude.{Option, Some, None}
+use Rattle.std.specs.Prelude.{Option, Some, None, Result, Ok, Err, OnOk}
 use Rattle.std.proofs.lemmas.List.{take-append-le}
-use Rattle.std.proofs.Math.Seq.{take-append-add, take-length}
+use Rattle.std.proofs.Math.Seq.{take-append-add}
 use Rattle.io_ports.specs.Causes.{Takes, TakesFront}
 use Rattle.self_debugger.specs.Answer.{Answer}
 use Rattle.self_debugger.specs.Headline.{Outcome}
@@ -47,13 +47,14 @@ pub takes_none : (a : Option (List ℕ)) → Takes a a []
 takes_none None = tt
 takes_none (Some x) = sym (append-nil x)
 
--- the whole is a front
-pub whole_front : (a b : Option (List ℕ)) (xs : List ℕ) → Takes a b xs → TakesFront a b xs
-whole_front a b xs h = (length xs, omega arith, takes_same a b xs (take (length xs) xs) (take-length xs) h)
-
 pub no_front : (a : Option (List ℕ)) (xs : List ℕ) → TakesFront a a xs
 no_front a xs = (0, omega arith, takes_none a)
 
 -- after a fault or want of memory, where nothing was written
 pub no_answer : (status : ℕ) (a : Answer) (old : Option (List ℕ)) → 4 ≤ status → Outcome status a old old
 no_answer status a old late = record { done = λ early. absurd (omega (arith, late, early)); front = λ _. no_front old a.0 }
+
+-- what is so where a call went well
+pub ok_on : {T E : Type 0} (r : Result T E) {P Q : Type 0} → OnOk r P → (P → Q) → OnOk r Q
+ok_on (Ok t) p f = f p
+ok_on (Err e) p f = tt

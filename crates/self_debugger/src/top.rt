@@ -3,7 +3,7 @@ ghost use Rattle.std.specs.Prelude.{◌≡◌, ◌⊎◌, ◌≤◌, ◌+◌, �
 ghost use Rattle.std.specs.List.{list_all};
 ghost use Rattle.io_ports.specs.Causes.{Rose, Takes, TakesFront};
 ghost use Rattle.session_text.specs.Scripts.{script};
-ghost use Rattle.session_text.specs.LineTexts.{refused_line};
+ghost use Rattle.session_text.specs.LineTexts.{HasRoom, line_text, refused_line};
 ghost use Rattle.plain_turns.specs.Asking.{count};
 ghost use Rattle.plain_session.specs.Commands.{is_built, transcript};
 ghost use Rattle.plain_session.specs.Sessions.{host_of, IsShown, CanCount, CountsFew};
@@ -21,7 +21,7 @@ use crate::worlds::{session_over, world_of};
 use io_ports::{Failed, Files, ReadErr, Sink, Source, read_all, read_file, write_all};
 use plain_core::RunErr;
 use plain_session::{Session, all_built};
-use session_text::{Command, Line, ScriptErr, read_script};
+use session_text::{Command, Line, LineText, ScriptErr, read_script};
 use std::alloc::{AllocError, Global};
 use world_build::World;
 use world_image::WorldImage;
@@ -362,7 +362,20 @@ impl From<Failed> for Stop {
     }
 }
 
-// Obeys a command, whose run writes what it prints, and writes its line behind that in one call.
+// Writes a line in one call.
+fn put_line<K: Sink>(line: &mut Line, text: &LineText, out: &mut K) -> Result<(), Stop>
+    requires { HasRoom text.now }
+    ensures all { OnOk result (Takes (K.taken out.old) (K.taken out.new) (line_text text.now)) }
+    ensures front { OnErr result (TakesFront (K.taken out.old) (K.taken out.new) (line_text text.now)) }
+    ensures later { K.faults out.old ≤ K.faults out.new }
+    ensures write { IsErrOf result Stop.Write → Rose (K.faults out.old) (K.faults out.new) }
+{
+    line.put(text);
+    write_all(out, line.bytes())?;
+    Ok(())
+}
+
+// Obeys a command, whose run writes what it prints, and writes its line behind that.
 fn obey<K: Sink>(
     session: &mut Session,
     alloc: Global,
@@ -382,11 +395,7 @@ fn obey<K: Sink>(
     ensures write { IsErrOf result Stop.Write → Rose (K.faults out.old) (K.faults out.new) }
 {
     match session.obey(alloc, command, out) {
-        Ok(text) => {
-            line.put(&text);
-            write_all(out, line.bytes())?;
-            Ok(())
-        }
+        Ok(text) => put_line(line, &text, out),
         Err(RunErr::Write) => Err(Stop::Write),
         Err(RunErr::OutOfMemory) => Err(Stop::OutOfMemory),
     }

@@ -1,4 +1,4 @@
-use Rattle.std.proofs.Common.{◌+◌, refl, arith}
+use Rattle.std.proofs.Common.{◌+◌, refl, ◌∙◌, sym, arith}
 use Rattle.plain_session.proofs.Obeying.{can_run, known_inside, broken_inside, went_rests, went_there, went_counts, went_obeys, went_led, are_few, on_err}
 use Rattle.plain_session.proofs.sessions.Session.go.Goals as goal
 
@@ -12,7 +12,9 @@ pub returns-in_err-taken-clause-broken : goal.returns-in_err-taken-clause-broken
 returns-in_err-taken-clause-broken g c = on_err c.from_residual.result _ (broken_inside c.args.self.now c.self.inside.hosting c.self.inside.walk c.self.inside.language c.self.inside.instructions c.self.inside.services c.self.view_is c.args.steps (g.K.Sink.taken c.args.out.now) (g.K.Sink.taken c.run.new.out) c.requires.stands c.in_err-taken.ensures.broken)
 
 pub run_line-requires-clause-rests : goal.run_line-requires-clause-rests
-run_line-requires-clause-rests g c = went_rests c.args.self.now c.self.inside.hosting c.run.new.hosting c.self.inside.walk c.run.new.walk c.self.inside.language c.self.inside.instructions c.self.inside.services (c.self.inside.instructions + c.in_ok-taken.taken.instructions) (c.self.inside.services + c.in_ok-taken.taken.services) c.self.view_is c.requires.shows c.in_ok-taken.ensures.same c.in_ok-taken.ensures.roomy c.args.steps c.in_ok-taken.taken (g.K.Sink.taken c.args.out.now) (g.K.Sink.taken c.run.new.out) c.in_ok-taken.ensures.ran
+run_line-requires-clause-rests g c =
+    let r = went_rests c.args.self.now c.self.inside.hosting c.run.new.hosting c.self.inside.walk c.run.new.walk c.self.inside.language c.self.inside.instructions c.self.inside.services (c.self.inside.instructions + c.in_ok-taken.taken.instructions) (c.self.inside.services + c.in_ok-taken.taken.services) c.self.view_is c.requires.shows c.in_ok-taken.ensures.same c.in_ok-taken.ensures.roomy c.args.steps c.in_ok-taken.taken (g.K.Sink.taken c.args.out.now) (g.K.Sink.taken c.run.new.out) c.in_ok-taken.ensures.ran in
+    (r.0, r.1, r.2 ∙ sym c.core.ensures)
 
 pub run_line-requires-clause-there : goal.run_line-requires-clause-there
 run_line-requires-clause-there g c = went_there c.args.self.now c.self.inside.hosting c.run.new.hosting c.self.inside.walk c.run.new.walk c.self.inside.language c.self.inside.instructions c.self.inside.services (c.self.inside.instructions + c.in_ok-taken.taken.instructions) (c.self.inside.services + c.in_ok-taken.taken.services) c.self.view_is c.requires.shows c.in_ok-taken.ensures.same c.in_ok-taken.ensures.roomy c.args.steps c.in_ok-taken.taken (g.K.Sink.taken c.args.out.now) (g.K.Sink.taken c.run.new.out) c.in_ok-taken.ensures.ran c.requires.goes
@@ -25,7 +27,7 @@ run_line-requires-clause-counted g c =
     omega (arith, counts, few, counted)
 
 pub returns-clause-obeys : goal.returns-clause-obeys
-returns-clause-obeys g c = went_obeys c.args.self.now c.self.inside.hosting c.run.new.hosting c.self.inside.walk c.run.new.walk c.self.inside.language c.self.inside.instructions c.self.inside.services (c.self.inside.instructions + c.in_ok-taken.taken.instructions) (c.self.inside.services + c.in_ok-taken.taken.services) c.self.view_is c.requires.shows c.in_ok-taken.ensures.same c.in_ok-taken.ensures.roomy c.args.steps c.in_ok-taken.taken (g.K.Sink.taken c.args.out.now) (g.K.Sink.taken c.run.new.out) c.in_ok-taken.ensures.ran _ c.requires.stands c.run_line.ensures.line
+returns-clause-obeys g c = went_obeys c.args.self.now c.self.inside.hosting c.run.new.hosting c.self.inside.walk c.run.new.walk c.self.inside.language c.self.inside.instructions c.self.inside.services (c.self.inside.instructions + c.in_ok-taken.taken.instructions) (c.self.inside.services + c.in_ok-taken.taken.services) c.self.view_is c.requires.shows c.in_ok-taken.ensures.same c.in_ok-taken.ensures.roomy c.args.steps c.in_ok-taken.taken (g.K.Sink.taken c.args.out.now) (g.K.Sink.taken c.run.new.out) c.in_ok-taken.ensures.ran _ c.requires.stands (λ s r same. c.run_line.ensures.line s r (same ∙ sym c.core.ensures))
 
 pub returns-clause-counted : goal.returns-clause-counted
 returns-clause-counted g c = went_counts c.args.self.now c.self.inside.hosting c.run.new.hosting c.self.inside.walk c.run.new.walk c.self.inside.language c.self.inside.instructions c.self.inside.services (c.self.inside.instructions + c.in_ok-taken.taken.instructions) (c.self.inside.services + c.in_ok-taken.taken.services) c.self.view_is c.requires.shows c.in_ok-taken.ensures.same c.in_ok-taken.ensures.roomy c.args.steps c.in_ok-taken.taken (g.K.Sink.taken c.args.out.now) (g.K.Sink.taken c.run.new.out) c.in_ok-taken.ensures.ran
