@@ -7,7 +7,7 @@ use Rattle.plain_runs.specs.Host.{Host}
 use Rattle.plain_runs.specs.Course.{with_machine}
 use Rattle.plain_stretches.specs.Gate.{gated_run, printed}
 use Rattle.plain_stretches.specs.Standing.{left_of}
-use Rattle.plain_turns.specs.Resting.{IsGoing, IsAtTrap, HasRun}
+use Rattle.plain_turns.specs.Resting.{IsGoing, IsAtTrap}
 use Rattle.plain_core.specs.Language.{Language, IsSpoken}
 use Rattle.plain_core.specs.Turning.{Breaks}
 use Rattle.plain_stretches.proofs.Joining.{runs_join}

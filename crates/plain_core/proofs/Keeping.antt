@@ -1,9 +1,8 @@
 -- What services leave as it was.
-use Rattle.std.proofs.Common.{◌≡◌, ℕ, ◌+◌, ◌-◌, refl, ◌∙◌, ap, sym, subst}
+use Rattle.std.proofs.Common.{◌≡◌, ℕ, ◌+◌, ◌-◌, refl, ◌∙◌, ap, sym}
 use Rattle.std.specs.Prelude.{Bool, true, false, nat_lt, if◌then◌else◌, slice_get}
 use Rattle.plain_words.specs.declared.references.References.{References}
 use Rattle.plain_runs.specs.Host.{Host}
-use Rattle.plain_runs.specs.Course.{with_machine}
 use Rattle.plain_runs.specs.Services.{settled}
 use Rattle.plain_unwinds.specs.Services.{written, unmarked, ended_older, home_at, returns_to, answers_from_home, unwinds}
 use Rattle.sparc_store.specs.Windows.{saved_at}

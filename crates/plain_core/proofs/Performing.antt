@@ -1,5 +1,5 @@
 -- Primitives as turns.
-use Rattle.std.proofs.Common.{◌≡◌, ℕ, ◌+◌, ◌*◌, ◌-◌, ◌<◌, ◌≤◌, List, [], ◌∷◌, ◌++◌, refl, ◌∙◌, ap, sym, subst, arith}
+use Rattle.std.proofs.Common.{◌≡◌, ℕ, ◌+◌, ◌-◌, ◌<◌, ◌≤◌, List, [], ◌∷◌, ◌++◌, refl, ◌∙◌, ap, sym, subst, arith}
 use Rattle.std.specs.Prelude.{Bool, true, false, if◌then◌else◌, ℤ, pos, negsuc, ◌+ℤ◌, ◌-ℤ◌, ◌*ℤ◌, int_div, int_rem, Option, Some, None, slice_get, length, nat_le, nat_lt}
 use Rattle.io_ports.specs.Causes.{Takes, TakesFront}
 use Rattle.self_terms.specs.declared.errors.ErrorName.{ErrorName}
@@ -18,18 +18,17 @@ use Rattle.source_model.specs.declared.objects.Thing.TheVariants.{Plain, Vector,
 use Rattle.source_model.specs.declared.primitives.Primitive.{Primitive}
 use Rattle.source_model.specs.declared.primitives.Primitive.TheVariants as prim
 use Rattle.source_model.specs.Names.{text_named}
-use Rattle.source_model.specs.Primitives.{Effect, Gives, Makes, Puts, Prints, Fails as Failure, apply, is_small, checked, of_integers, int_eq, divided, same, cloned, new_vector, size, element, element_at, at, put_at, put, string_print, int_print, number, thing_of, first}
+use Rattle.source_model.specs.Primitives.{Effect, Gives, Fails as Failure, apply, is_small, checked, of_integers, int_eq, divided, same, cloned, new_vector, size, element, element_at, at, put_at, put, string_print, int_print, thing_of, first}
 use Rattle.source_model.specs.State.{State, silent}
 use Rattle.heap_cells.specs.Heaps.{IsHeap}
 use Rattle.heap_cells.specs.Laying.{Cells}
 use Rattle.heap_cells.specs.Source.{Made}
 use Rattle.heap_cells.specs.Standing.{Places, IsValue}
-use Rattle.prim_table.specs.Answers.{CanApply, IsAnswer, cost}
+use Rattle.prim_table.specs.Answers.{IsAnswer, cost}
 use Rattle.prim_table.specs.Operands.{Operand}
 use Rattle.prim_table.specs.declared.answers.CoreWords.{CoreWords}
 use Rattle.prim_table.specs.declared.answers.PrimAnswer.{PrimAnswer}
 use Rattle.prim_table.specs.declared.answers.PrimAnswer.TheVariants as answers
-use Rattle.plain_words.specs.Moves.{registers_from}
 use Rattle.plain_runs.specs.Host.{Host}
 use Rattle.plain_runs.specs.Course.{with_machine}
 use Rattle.plain_prims.specs.Performing.{printed_by}
@@ -43,11 +42,10 @@ use Rattle.plain_turns.specs.Primitives.{IsPrimitive, IsOf, KnowsWords, Costs, S
 use Rattle.plain_turns.specs.Resting.{IsAtTrap}
 use Rattle.plain_core.specs.Language.{Language, IsSpoken}
 use Rattle.plain_core.specs.Turning.{StandsAt, Served, Breaks, Quiet, IsKnown, is_printing, Writes, on, ended}
-use Rattle.plain_core.specs.declared.turning.Turn.{Turn}
 use Rattle.plain_core.specs.declared.turning.Turn.TheVariants as turns
 use Rattle.plain_turns.proofs.Primitives.{primitives_ask, lacks_end, undefined_end, primitives_may_apply, fulls_end, failures_end, answers_turn}
 use Rattle.plain_core.proofs.Fronts.{going_front, breaks_within, breaks_behind}
-use Rattle.plain_core.proofs.Serving.{quietly, quiet_as}
+use Rattle.plain_core.proofs.Serving.{quietly}
 
 -- Effects that print nothing.
 

@@ -9,10 +9,10 @@ use Rattle.plain_stretches.specs.Gate.{gated_run}
 use Rattle.plain_turns.specs.Asking.{count, cost_left, goes_back}
 use Rattle.plain_turns.specs.Events.{Reaches, Here, Services, Begins}
 use Rattle.plain_turns.specs.Resting.{Rests, IsGoing, IsAtTrap, HasRun}
-use Rattle.plain_turns.specs.Rooms.{unmade, unput, most_words}
+use Rattle.plain_turns.specs.Rooms.{unmade, unput}
 use Rattle.plain_core.specs.Language.{Language, IsSpoken}
 use Rattle.plain_core.specs.Running.{CanRun, HasRunOn, HasBroken}
-use Rattle.plain_core.specs.Turning.{Broken, Breaks, CanGoOn, Next, IsLess, Ran, StandsAt, Went, far, still}
+use Rattle.plain_core.specs.Turning.{Broken, Breaks, CanGoOn, Next, IsLess, Ran, Went, far, still}
 use Rattle.plain_core.specs.declared.running.Counts.{Counts}
 use Rattle.plain_turns.proofs.Running.{runs_begin, traps_tell}
 use Rattle.plain_core.proofs.Fronts.{no_more, takes_more, then_more, taken_front}

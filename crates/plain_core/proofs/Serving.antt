@@ -1,9 +1,8 @@
 -- Each service as a turn.
 use Rattle.std.proofs.Common.{◌≡◌, ◌≢◌, ℕ, zero, suc, ◌+◌, ◌*◌, ◌-◌, ◌%◌, ◌<◌, ◌≤◌, List, [], ◌∷◌, ◌++◌, refl, ◌∙◌, ap, sym, subst, arith, inl, inr}
-use Rattle.std.specs.Prelude.{true, false, Option, Some, None, slice_get, get_or, length}
+use Rattle.std.specs.Prelude.{Option, Some, None, slice_get, get_or, length}
 use Rattle.std.specs.Option.{option_and_then}
 use Rattle.std.proofs.lemmas.Option.{same_Some}
-use Rattle.io_ports.specs.Causes.{Takes}
 use Rattle.self_terms.specs.declared.errors.ErrorName.{ErrorName}
 use Rattle.self_terms.specs.declared.errors.ErrorName.TheVariants as errors
 use Rattle.self_terms.specs.declared.nodes.Selector.{Selector}
@@ -30,11 +29,11 @@ use Rattle.plain_units.specs.Putting.{IsPut}
 use Rattle.plain_unwinds.specs.Services.{CanUnwind, fails_unmarked, unwinds}
 use Rattle.plain_turns.specs.Asking.{count, cost_left, node_here, place_here, found_here, behind_poll, goes_back}
 use Rattle.plain_turns.specs.Events.{Serves, Waits, Answers, Assigns, Calls, Puts, Misses, Refuses, Returns, Fills, Ends}
-use Rattle.plain_turns.specs.Resting.{IsAtTrap, HasRun}
+use Rattle.plain_turns.specs.Resting.{IsAtTrap}
 use Rattle.plain_turns.specs.Rooms.{unmade}
-use Rattle.plain_turns.specs.Turns.{IsAsked, IsThere, AtTrap, StepsOn, BeginsAgain, is_over}
+use Rattle.plain_turns.specs.Turns.{IsAsked, IsThere, AtTrap, is_over}
 use Rattle.plain_core.specs.Language.{Language, IsSpoken}
-use Rattle.plain_core.specs.Turning.{StandsAt, Served, Quiet, Turned, on, again, ended}
+use Rattle.plain_core.specs.Turning.{StandsAt, Quiet, Turned, on, again, ended}
 use Rattle.plain_core.specs.declared.turning.Turn.{Turn}
 use Rattle.plain_core.specs.declared.turning.Turn.TheVariants as turns
 use Rattle.plain_turns.proofs.Answering.{data_turns, assignments_turn, misses_end}

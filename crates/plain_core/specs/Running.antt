@@ -1,5 +1,5 @@
 -- A run of so many steps.
-use Rattle.std.specs.Prelude.{◌≡◌, ℕ, ◌+◌, ◌-◌, ◌^◌, ◌≤◌, List, Option, Some, slice_get}
+use Rattle.std.specs.Prelude.{◌≡◌, ℕ, ◌+◌, ◌^◌, ◌≤◌, List, Option, Some, slice_get}
 use Rattle.io_ports.specs.Causes.{Takes, TakesFront}
 use Rattle.source_model.specs.State.{State, silent}
 use Rattle.plain_runs.specs.Host.{Host}

@@ -1,4 +1,4 @@
-use Rattle.std.proofs.Common.{◌≡◌, ◌+◌, ◌++◌, map, drop, ◌∙◌, ap, arith}
+use Rattle.std.proofs.Common.{◌+◌, ◌++◌, map, drop, ◌∙◌, ap, arith}
 use Rattle.prim_table.specs.Named.{prim_named}
 use Rattle.plain_core.proofs.Known.{row_next}
 use Rattle.plain_core.proofs.language.rows_of.Goals as goal

@@ -1,4 +1,4 @@
-use Rattle.std.proofs.Common.{ℕ, ◌+◌, ◌-◌, ◌∙◌, ap}
+use Rattle.std.proofs.Common.{ℕ, ◌-◌, ◌∙◌, ap}
 use Rattle.plain_host.specs.Hosted.{host}
 use Rattle.plain_runs.specs.Host.{Host}
 use Rattle.plain_core.proofs.Fronts.{any_err}

@@ -1,4 +1,4 @@
-use Rattle.std.proofs.Common.{ℕ, ◌+◌, List, [], ◌++◌, refl, ◌∙◌, arith}
+use Rattle.std.proofs.Common.{[], ◌++◌, ◌∙◌, arith}
 use Rattle.std.specs.Prelude.{Some}
 use Rattle.plain_host.specs.Hosted.{host}
 use Rattle.plain_core.proofs.Fronts.{any_err, takes_none, takes_more}

@@ -1,4 +1,4 @@
-use Rattle.std.proofs.Common.{◌≡◌, ◌≤◌, ℕ, ◌+◌, ◌-◌, refl, ◌∙◌, ap, sym, subst, arith}
+use Rattle.std.proofs.Common.{ℕ, ◌-◌, ◌∙◌, ap, sym, subst, arith}
 use Rattle.prim_table.specs.declared.answers.PrimAnswer.TheVariants as answers
 use Rattle.plain_runs.specs.Host.{Host}
 use Rattle.plain_unwinds.specs.Services.{fails_unmarked}

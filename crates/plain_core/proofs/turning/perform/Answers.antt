@@ -1,4 +1,4 @@
-use Rattle.std.proofs.Common.{◌≡◌, ◌∙◌, sym}
+use Rattle.std.proofs.Common.{◌∙◌, sym}
 use Rattle.plain_core.proofs.Performing.{primitive_here}
 use Rattle.plain_core.proofs.turning.perform.Goals as goal
 

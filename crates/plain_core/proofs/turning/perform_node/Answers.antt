@@ -1,4 +1,4 @@
-use Rattle.std.proofs.Common.{◌≡◌, ◌∙◌, sym}
+use Rattle.std.proofs.Common.{◌∙◌, sym}
 use Rattle.std.proofs.lemmas.Option.{same_Some}
 use Rattle.plain_core.proofs.Performing.{primitive_here, few_arguments}
 use Rattle.plain_core.proofs.turning.perform_node.Goals as goal

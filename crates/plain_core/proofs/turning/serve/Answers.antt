@@ -1,8 +1,6 @@
-use Rattle.std.proofs.Common.{◌≡◌, ℕ, sym, subst}
+use Rattle.std.proofs.Common.{ℕ, sym, subst}
 use Rattle.plain_host.specs.Hosted.{host}
-use Rattle.plain_runs.specs.Host.{Host}
-use Rattle.plain_core.specs.Turning.{Served, Breaks}
-use Rattle.plain_core.specs.declared.turning.Turn.{Turn}
+use Rattle.plain_core.specs.Turning.{Served}
 use Rattle.plain_core.proofs.Fronts.{breaks_here}
 use Rattle.plain_core.proofs.turning.serve.Goals as goal
 

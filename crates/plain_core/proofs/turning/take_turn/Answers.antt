@@ -1,6 +1,5 @@
-use Rattle.std.proofs.Common.{subst, ap, arith}
+use Rattle.std.proofs.Common.{subst}
 use Rattle.plain_host.specs.Hosted.{host}
-use Rattle.plain_runs.specs.Host.{Host}
 use Rattle.plain_core.specs.Turning.{Served}
 use Rattle.plain_core.specs.declared.turning.Turn.{Turn}
 use Rattle.plain_core.proofs.Joining.{goes, turns_on, turns_end}
