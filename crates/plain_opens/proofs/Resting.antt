@@ -113,6 +113,7 @@ module _ (i : Image) (memory : Words) (advisors : ℕ) (stands : Stands i) (mode
   maps : HasMaps h
   maps = record {
     few = few_maps;
+    bodies = (let room = can.room in omega (arith, room, bodies_few i.world.bodies));
     contexts = block_maps_are.contexts;
     blocks = λ b outer has is. let m = block_maps_are.blocks b outer has is in record { there = m.within; told = m.told };
   }

@@ -1,15 +1,13 @@
 -- What a session knows of the language.
-use Rattle.std.proofs.Common.{◌≡◌, ℕ, zero, suc, ◌+◌, ◌<◌, refl, ◌∙◌, ap, sym, subst, arith}
+use Rattle.std.proofs.Common.{◌≡◌, ℕ, suc, ◌+◌, refl, ◌∙◌, ap, sym, subst, arith}
 use Rattle.std.specs.Prelude.{List, [], ◌∷◌, length, get_or, slice_get}
 use Rattle.std.proofs.lemmas.Option.{slice_get-get_or}
-use Rattle.prim_table.specs.declared.answers.CoreWords.{CoreWords}
 use Rattle.source_model.specs.declared.objects.Core.{Core}
 use Rattle.source_model.specs.declared.objects.Thing.{Thing}
 use Rattle.source_model.specs.State.{State}
 use Rattle.sparc_store.specs.Words.{Words}
 use Rattle.plain_words.specs.declared.references.References.{References}
 use Rattle.plain_runs.specs.Host.{Host}
-use Rattle.plain_turns.specs.Primitives.{KnowsWords}
 use Rattle.plain_host.specs.Opened.{opened_host}
 use Rattle.plain_core.specs.Language.{Language, IsSpoken, KnowsCore}
 use Rattle.world_build.specs.Wholeness.{IsWhole}

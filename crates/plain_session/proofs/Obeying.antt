@@ -6,8 +6,6 @@ use Rattle.std.proofs.lemmas.Option.{slice_get_within}
 use Rattle.self_terms.specs.declared.errors.ErrorName.{ErrorName}
 use Rattle.self_terms.specs.declared.nodes.Place.{Place}
 use Rattle.self_terms.specs.declared.values.Value.{Value}
-use Rattle.source_model.specs.declared.objects.Core.{Core}
-use Rattle.io_ports.specs.Causes.{Takes, TakesFront}
 use Rattle.source_model.specs.Formed.{arity}
 use Rattle.source_model.specs.Lines.{line, activity_line, run_line}
 use Rattle.source_model.specs.Names.{number_of}

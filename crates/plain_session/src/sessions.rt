@@ -1,5 +1,5 @@
 //! Sessions and their commands.
-ghost use Rattle.std.specs.Prelude.{◌≡◌, ◌≢◌, ◌≤◌, ◌+◌, ◌^◌, ◌++◌, ℕ, [], true, codes, length, slice_get, None, Some, Err, IfOk, OnErr};
+ghost use Rattle.std.specs.Prelude.{◌≡◌, ◌≢◌, ◌≤◌, ◌+◌, ◌^◌, ◌++◌, ℕ, [], true, codes, length, slice_get, None, Some, IfOk, OnErr, IsErrOf};
 ghost use Rattle.io_ports.specs.Causes.{Rose};
 ghost use Rattle.source_model.specs.Formed.{IsWellFormed, arity};
 ghost use Rattle.source_model.specs.Lines.{activity_line};
@@ -198,7 +198,7 @@ impl Session {
         ensures rose { IfOk result (λ t. CountsFew self.old self.new) }
         ensures broken { OnErr result (HasBroken self.old (gated_steps steps) (K.taken out.old) (K.taken out.new)) }
         ensures later { K.faults out.old ≤ K.faults out.new }
-        ensures cause { result ≡ Err Write → Rose (K.faults out.old) (K.faults out.new) }
+        ensures cause { IsErrOf result Write → Rose (K.faults out.old) (K.faults out.new) }
     {
         let taken = plain_core::run(
             &mut self.hosting,
@@ -231,7 +231,7 @@ impl Session {
         ensures rose { IfOk result (λ t. CountsFew self.old self.new) }
         ensures broken { OnErr result (HasBroken self.old (gated_steps steps) (K.taken out.old) (K.taken out.new)) }
         ensures later { K.faults out.old ≤ K.faults out.new }
-        ensures cause { result ≡ Err Write → Rose (K.faults out.old) (K.faults out.new) }
+        ensures cause { IsErrOf result Write → Rose (K.faults out.old) (K.faults out.new) }
     {
         match standing_of(&self.hosting) {
             Standing::Nobody => Ok(LineText::Fixed("refused no activity")),
@@ -260,7 +260,7 @@ impl Session {
         ensures rose { IfOk result (λ t. CountsFew self.old self.new) }
         ensures broken { OnErr result (HasBroken self.old (gated_continue steps) (K.taken out.old) (K.taken out.new)) }
         ensures later { K.faults out.old ≤ K.faults out.new }
-        ensures cause { result ≡ Err Write → Rose (K.faults out.old) (K.faults out.new) }
+        ensures cause { IsErrOf result Write → Rose (K.faults out.old) (K.faults out.new) }
     {
         let done = self.hosting.steps();
         if done > steps as u64 {
@@ -287,7 +287,7 @@ impl Session {
         ensures rose { IfOk result (λ t. CountsFew self.old self.new) }
         ensures broken { OnErr result (HasBroken self.old (gated_continue steps) (K.taken out.old) (K.taken out.new)) }
         ensures later { K.faults out.old ≤ K.faults out.new }
-        ensures cause { result ≡ Err Write → Rose (K.faults out.old) (K.faults out.new) }
+        ensures cause { IsErrOf result Write → Rose (K.faults out.old) (K.faults out.new) }
     {
         match standing_of(&self.hosting) {
             Standing::Nobody => Ok(LineText::Fixed("refused no activity")),
@@ -315,7 +315,7 @@ impl Session {
         ensures rose { IfOk result (λ t. CountsFew self.old self.new) }
         ensures broken { OnErr result (HasBroken self.old (obeyed command.now) (K.taken out.old) (K.taken out.new)) }
         ensures later { K.faults out.old ≤ K.faults out.new }
-        ensures cause { result ≡ Err Write → Rose (K.faults out.old) (K.faults out.new) }
+        ensures cause { IsErrOf result Write → Rose (K.faults out.old) (K.faults out.new) }
     {
         match command {
             Command::Spawn(name) => Ok(self.spawn(alloc, name.as_slice())?),

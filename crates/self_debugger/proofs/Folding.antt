@@ -1,6 +1,6 @@
 -- The commands of a script, one after the other.
-use Rattle.std.proofs.Common.{◌≡◌, ℕ, zero, suc, ◌+◌, ◌*◌, ◌<◌, ◌≤◌, refl, ◌∙◌, ap, sym, subst, arith, append_assoc}
-use Rattle.std.specs.Prelude.{◌&&◌, Bool, true, false, ◌++◌, List, [], ◌∷◌, length, take, drop, Option, Some, None, slice_get, get_or}
+use Rattle.std.proofs.Common.{◌≡◌, ℕ, zero, suc, ◌+◌, ◌*◌, ◌<◌, ◌≤◌, refl, ◌∙◌, ap, sym, subst, arith}
+use Rattle.std.specs.Prelude.{◌&&◌, Bool, true, false, ◌++◌, List, [], ◌∷◌, length, drop, Option, Some, slice_get, get_or}
 use Rattle.std.specs.List.{list_all}
 use Rattle.io_ports.specs.Causes.{Takes, TakesFront}
 use Rattle.session_text.specs.declared.commands.Command.{Command}
