@@ -3,9 +3,10 @@ use Rattle.std.proofs.Common.{◌≡◌, ℕ, zero, suc, ◌+◌, ◌-◌, ◌�
 use Rattle.std.specs.Prelude.{Option, Some, None, Result, Ok, Err, OnErr, length, take, drop}
 use Rattle.io_ports.specs.Causes.{Takes, TakesFront}
 use Rattle.source_model.specs.State.{State, Reached, silent}
+use Rattle.source_model.specs.Step.{run}
 use Rattle.plain_runs.specs.Host.{Host}
 use Rattle.plain_runs.specs.Course.{with_machine}
-use Rattle.plain_stretches.specs.Gate.{gated_run, printed}
+use Rattle.plain_stretches.specs.Printing.{printed}
 use Rattle.plain_stretches.specs.Standing.{left_of}
 use Rattle.plain_turns.specs.Resting.{IsGoing, IsAtTrap}
 use Rattle.plain_core.specs.Language.{Language, IsSpoken}
@@ -37,19 +38,19 @@ takes_more None (Some ws) (Some zs) xs ys a b = absurd a
 takes_more (Some vs) (Some ws) (Some zs) xs ys a b = b ∙ ap (λ (l : List ℕ). l ++ ys) a ∙ then_more vs xs ys
 
 -- A run behind the gate that was reached by so many steps goes on to a front of what more steps print.
-pub goes_further : (done more all : ℕ) (from state : State) (out : List ℕ) → gated_run done (silent from) ≡ printed state out → all ≡ done + more → (rest : List ℕ) × ((gated_run all (silent from)).out ≡ out ++ rest)
+pub goes_further : (done more all : ℕ) (from state : State) (out : List ℕ) → run done (silent from) ≡ printed state out → all ≡ done + more → (rest : List ℕ) × ((run all (silent from)).out ≡ out ++ rest)
 goes_further done more all from state out runs is =
-    let r = gated_run more (silent state) in
-    (r.out, ap (λ (k : ℕ). (gated_run k (silent from)).out) is ∙ ap (λ (q : Reached). q.out) (runs_join done more from state r.state out r.out runs refl))
+    let r = run more (silent state) in
+    (r.out, ap (λ (k : ℕ). (run k (silent from)).out) is ∙ ap (λ (q : Reached). q.out) (runs_join done more from state r.state out r.out runs refl))
 
-pub trap_front : (h : Host) (trap : ℕ) (from : State) (target : ℕ) (out : List ℕ) → IsAtTrap h trap from target out → (rest : List ℕ) × ((gated_run (target - from.steps) (silent from)).out ≡ out ++ rest)
+pub trap_front : (h : Host) (trap : ℕ) (from : State) (target : ℕ) (out : List ℕ) → IsAtTrap h trap from target out → (rest : List ℕ) × ((run (target - from.steps) (silent from)).out ≡ out ++ rest)
 trap_front h trap from target out x =
     let left = left_of (with_machine h x.last) in
     let counted = x.counted in
     let left_is = x.left_is in
     goes_further x.done left (target - from.steps) from x.state out x.runs (omega (arith, counted, left_is))
 
-pub going_front : (h : Host) (from : State) (target : ℕ) (out : List ℕ) → IsGoing h from target out → (rest : List ℕ) × ((gated_run (target - from.steps) (silent from)).out ≡ out ++ rest)
+pub going_front : (h : Host) (from : State) (target : ℕ) (out : List ℕ) → IsGoing h from target out → (rest : List ℕ) × ((run (target - from.steps) (silent from)).out ≡ out ++ rest)
 going_front h from target out g =
     let s = g.stretch in
     let left = left_of (with_machine h s.last) in
@@ -74,7 +75,7 @@ taken_apart (suc n) (x ∷ xs) = ap (λ (ys : List ℕ). x ∷ ys) (taken_apart 
 
 -- A front of a line that leads on was taken.
 pub breaks_within : (l : Language) (trap : ℕ) (h : Host) (target : ℕ) (old new : Option (List ℕ)) (line : List ℕ) → TakesFront old new line
-    → ((from : State) (out : List ℕ) → IsSpoken l from → IsAtTrap h trap from target out → (rest : List ℕ) × ((gated_run (target - from.steps) (silent from)).out ≡ (out ++ line) ++ rest)) → Breaks l trap h target old new
+    → ((from : State) (out : List ℕ) → IsSpoken l from → IsAtTrap h trap from target out → (rest : List ℕ) × ((run (target - from.steps) (silent from)).out ≡ (out ++ line) ++ rest)) → Breaks l trap h target old new
 breaks_within l trap h target old new line t more = record {
   said = take t.0 line;
   takes = t.2;
@@ -84,7 +85,7 @@ breaks_within l trap h target old new line t more = record {
 }
 
 pub breaks_behind : (l : Language) (trap : ℕ) (h : Host) (target : ℕ) (old new : Option (List ℕ)) (line : List ℕ) → Takes old new line
-    → ((from : State) (out : List ℕ) → IsSpoken l from → IsAtTrap h trap from target out → (rest : List ℕ) × ((gated_run (target - from.steps) (silent from)).out ≡ (out ++ line) ++ rest)) → Breaks l trap h target old new
+    → ((from : State) (out : List ℕ) → IsSpoken l from → IsAtTrap h trap from target out → (rest : List ℕ) × ((run (target - from.steps) (silent from)).out ≡ (out ++ line) ++ rest)) → Breaks l trap h target old new
 breaks_behind l trap h target old new line t more = record {
   said = line;
   takes = t;

@@ -20,6 +20,7 @@ use Rattle.source_model.specs.declared.primitives.Primitive.TheVariants as prim
 use Rattle.source_model.specs.Names.{text_named}
 use Rattle.source_model.specs.Primitives.{Effect, Gives, Fails as Failure, apply, is_small, checked, of_integers, int_eq, divided, same, cloned, new_vector, size, element, element_at, at, put_at, put, string_print, int_print, thing_of, first}
 use Rattle.source_model.specs.State.{State, silent}
+use Rattle.source_model.specs.Step.{run}
 use Rattle.heap_cells.specs.Heaps.{IsHeap}
 use Rattle.heap_cells.specs.Laying.{Cells}
 use Rattle.heap_cells.specs.Source.{Made}
@@ -34,7 +35,6 @@ use Rattle.plain_runs.specs.Course.{with_machine}
 use Rattle.plain_prims.specs.Performing.{printed_by}
 use Rattle.plain_prims.specs.Rows.{primitive_of}
 use Rattle.plain_prims.specs.Services.{heap_of, performs}
-use Rattle.plain_stretches.specs.Gate.{gated_run}
 use Rattle.plain_unwinds.specs.Services.{fails_unmarked}
 use Rattle.plain_turns.specs.Asking.{count, cost_left, node_here, place_here}
 use Rattle.plain_turns.specs.Events.{Performs, Fails}
@@ -291,7 +291,7 @@ module _ (l : Language) (h : Host) (target : ℕ) (at : StandsAt l h 3 target) w
                 turned = λ from out spoken x. on refl (answers_turn h from target out x p args (of_this from spoken) core (known_to from spoken) words costs fits g.machine.memory heap word was line said).on;
               })
 
-          further : (line : List ℕ) → Says h p line → (from : State) (out : List ℕ) → IsSpoken l from → IsAtTrap h 3 from target out → (rest : List ℕ) × ((gated_run (target - from.steps) (silent from)).out ≡ (out ++ line) ++ rest)
+          further : (line : List ℕ) → Says h p line → (from : State) (out : List ℕ) → IsSpoken l from → IsAtTrap h 3 from target out → (rest : List ℕ) × ((run (target - from.steps) (silent from)).out ≡ (out ++ line) ++ rest)
           further line said from out spoken x =
               going_front performed from target (out ++ line) (answers_turn h from target out x p args (of_this from spoken) core (known_to from spoken) words costs fits g.machine.memory heap word was line said).on.going
 

@@ -4,8 +4,8 @@ use Rattle.std.specs.Prelude.{Option, Some, None}
 use Rattle.io_ports.specs.Causes.{Takes}
 use Rattle.self_terms.specs.declared.bodies.Body.{Body}
 use Rattle.source_model.specs.State.{State, silent}
+use Rattle.source_model.specs.Step.{run}
 use Rattle.plain_runs.specs.Host.{Host}
-use Rattle.plain_stretches.specs.Gate.{gated_run}
 use Rattle.plain_turns.specs.Asking.{count, cost_left, goes_back}
 use Rattle.plain_turns.specs.Events.{Reaches, Here, Services, Begins}
 use Rattle.plain_turns.specs.Resting.{Rests, IsGoing, IsAtTrap, HasRun}
@@ -109,4 +109,4 @@ has_broken l h mid steps cost target old new r is left from few b s rests spoken
     let counted : count h ≡ s.steps = rests.sound.stands.stands.steps in
     let f = b.front s [] spoken (starts l h mid steps cost target r is left from few s rests) in
     let far_is : target + steps - s.steps ≡ steps = omega (arith, from, counted) in
-    taken_front old new b.said f.0 (gated_run steps (silent s)).out b.takes (ap (λ (k : ℕ). (gated_run k (silent s)).out) (sym far_is) ∙ f.1)
+    taken_front old new b.said f.0 (run steps (silent s)).out b.takes (ap (λ (k : ℕ). (run k (silent s)).out) (sym far_is) ∙ f.1)

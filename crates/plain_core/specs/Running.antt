@@ -2,9 +2,9 @@
 use Rattle.std.specs.Prelude.{◌≡◌, ℕ, ◌+◌, ◌^◌, ◌≤◌, List, Option, Some, slice_get}
 use Rattle.io_ports.specs.Causes.{Takes, TakesFront}
 use Rattle.source_model.specs.State.{State, silent}
+use Rattle.source_model.specs.Step.{run}
 use Rattle.plain_runs.specs.Host.{Host}
 use Rattle.plain_runs.specs.declared.status.Status.TheVariants.{Waiting}
-use Rattle.plain_stretches.specs.Gate.{gated_run}
 use Rattle.plain_turns.specs.Events.{Reaches}
 use Rattle.plain_turns.specs.Resting.{Rests, HasRun}
 use Rattle.plain_core.specs.Language.{Language, IsSpoken}
@@ -30,7 +30,7 @@ pub record HasRunOn (n : ℕ) (c : Counts) (l : Language) (h to : Host) (old new
 
 -- The run broke off: a front of what the source prints was taken.
 abbrev pub HasBroken : ℕ → Language → Host → Option (List ℕ) → Option (List ℕ) → Type 0
-HasBroken n l h old new = (s : State) → Rests h s → IsSpoken l s → TakesFront old new (gated_run n (silent s)).out
+HasBroken n l h old new = (s : State) → Rests h s → IsSpoken l s → TakesFront old new (run n (silent s)).out
 
 -- no run takes more
 pub record IsFew (c : Counts) : Type 0 where

@@ -7,11 +7,11 @@ use Rattle.source_model.specs.declared.primitives.Primitive.{Primitive}
 use Rattle.source_model.specs.declared.primitives.Primitive.TheVariants as prim
 use Rattle.source_model.specs.Names.{text_named}
 use Rattle.source_model.specs.State.{State, silent}
+use Rattle.source_model.specs.Step.{run}
 use Rattle.plain_words.specs.Going.{Goes}
 use Rattle.plain_runs.specs.Host.{Host}
 use Rattle.plain_runs.specs.Course.{with_machine}
 use Rattle.plain_prims.specs.Rows.{primitive_of}
-use Rattle.plain_stretches.specs.Gate.{gated_run}
 use Rattle.plain_turns.specs.Asking.{count, node_here}
 use Rattle.plain_turns.specs.Events.{Serves, Reaches}
 use Rattle.plain_turns.specs.Primitives.{Says}
@@ -85,7 +85,7 @@ Writes false h p line = line ≡ []
 pub record Breaks (l : Language) (trap : ℕ) (h : Host) (target : ℕ) (old new : Option (List ℕ)) : Type 0 where
   pub said : List ℕ
   pub takes : Takes old new said
-  pub front : (from : State) (out : List ℕ) → IsSpoken l from → IsAtTrap h trap from target out → (rest : List ℕ) × ((gated_run (target - from.steps) (silent from)).out ≡ out ++ said ++ rest)
+  pub front : (from : State) (out : List ℕ) → IsSpoken l from → IsAtTrap h trap from target out → (rest : List ℕ) × ((run (target - from.steps) (silent from)).out ≡ out ++ said ++ rest)
 
 -- how far a run may still go: steps that are left, and units that may still be put
 abbrev pub far : ℕ → Host → ℕ
@@ -123,4 +123,4 @@ pub record Ran (l : Language) (h to : Host) (target : ℕ) (old new : Option (Li
 pub record Broken (l : Language) (h : Host) (target : ℕ) (old new : Option (List ℕ)) : Type 0 where
   pub said : List ℕ
   pub takes : Takes old new said
-  pub front : (from : State) (out : List ℕ) → IsSpoken l from → IsGoing h from target out → (rest : List ℕ) × ((gated_run (target - from.steps) (silent from)).out ≡ out ++ said ++ rest)
+  pub front : (from : State) (out : List ℕ) → IsSpoken l from → IsGoing h from target out → (rest : List ℕ) × ((run (target - from.steps) (silent from)).out ≡ out ++ said ++ rest)

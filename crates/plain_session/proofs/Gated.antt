@@ -4,11 +4,11 @@ use Rattle.std.specs.Prelude.{Bool, true, false, if◌then◌else◌, ◌++◌, 
 use Rattle.source_model.specs.declared.objects.Core.{Core}
 use Rattle.source_model.specs.Messages.{body_of}
 use Rattle.source_model.specs.State.{Activation, Activity, Running, Answered, Failed, State, Reached, silent}
-use Rattle.source_model.specs.Step.{node_at, place_of, step}
+use Rattle.source_model.specs.Step.{node_at, place_of, step, onward, run}
 use Rattle.self_terms.specs.declared.errors.ErrorName.TheVariants as errors
 use Rattle.raw_steps.specs.Sends.{here_of}
 use Rattle.raw_steps.proofs.Fixed.{step_fixed}
-use Rattle.plain_stretches.specs.Gate.{is_built, not_built, gated_at, gated_step, gated_onward, gated_run, printed}
+use Rattle.plain_stretches.specs.Printing.{printed}
 use Rattle.plain_session.proofs.Onward.{as_it_is, set_beside}
 use Rattle.plain_session.proofs.Counting.{CountsOn, of_beside, step_counts}
 
@@ -35,8 +35,8 @@ at_gate s (Some (Answered v)) = stays s
 at_gate s (Some (Failed e p)) = stays s
 at_gate s (Some (Running (a ∷ older))) = by_gate s a (is_built (here_of s a older) (node_at (body_of s a.body) a.next))
 
-pub step_remains : (s : State) → Remains s (gated_step s).state
-unfolding gated_step
+pub step_remains : (s : State) → Remains s (step s).state
+unfolding step
 step_remains s = at_gate s (slice_get s.activities s.current)
 
 -- So does a run, which counts at most its steps.
@@ -59,27 +59,27 @@ then_runs n s t u m r = record {
   activities = r.activities ∙ m.counts.activities;
 }
 
-pub run_remains : (n : ℕ) (r : Reached) → RunsOn n r.state (gated_run n r).state
-unfolding gated_run
+pub run_remains : (n : ℕ) (r : Reached) → RunsOn n r.state (run n r).state
+unfolding run
 run_remains zero r = record { names = refl; core = refl; few = omega arith; current = refl; activities = refl }
-run_remains (suc n) r = then_runs n r.state (gated_onward r).state (gated_run (suc n) r).state (step_remains r.state) (run_remains n (gated_onward r))
+run_remains (suc n) r = then_runs n r.state (onward r).state (run (suc n) r).state (step_remains r.state) (run_remains n (onward r))
 
 -- What was written before stands in front.
 
 abbrev pub behind : List ℕ → Reached → Reached
 behind text r = record { state = r.state; out = text ++ r.out }
 
-onward_behind : (text : List ℕ) (r : Reached) → gated_onward (behind text r) ≡ behind text (gated_onward r)
-onward_behind text r = ap (λ (o : List ℕ). record { state = (gated_step r.state).state; out = o }) (append_assoc text r.out (gated_step r.state).out)
+onward_behind : (text : List ℕ) (r : Reached) → onward (behind text r) ≡ behind text (onward r)
+onward_behind text r = ap (λ (o : List ℕ). record { state = (step r.state).state; out = o }) (append_assoc text r.out (step r.state).out)
 
-pub run_behind : (n : ℕ) (text : List ℕ) (r : Reached) → gated_run n (behind text r) ≡ behind text (gated_run n r)
-unfolding gated_run
+pub run_behind : (n : ℕ) (text : List ℕ) (r : Reached) → run n (behind text r) ≡ behind text (run n r)
+unfolding run
 run_behind zero text r = refl
-run_behind (suc n) text r = ap (gated_run n) (onward_behind text r) ∙ run_behind n text (gated_onward r)
+run_behind (suc n) text r = ap (run n) (onward_behind text r) ∙ run_behind n text (onward r)
 
 pub as_behind : (q : Reached) → q ≡ behind q.out (silent q.state)
 as_behind q = ap (λ (o : List ℕ). record { state = q.state; out = o }) (sym (append-nil q.out))
 
 -- what a run writes from a silent state stands behind what was written
-pub run_from : (n : ℕ) (q : Reached) (t : State) (said : List ℕ) → gated_run n (silent q.state) ≡ printed t said → gated_run n q ≡ printed t (q.out ++ said)
-run_from n q t said e = ap (gated_run n) (as_behind q) ∙ run_behind n q.out (silent q.state) ∙ ap (behind q.out) e
+pub run_from : (n : ℕ) (q : Reached) (t : State) (said : List ℕ) → run n (silent q.state) ≡ printed t said → run n q ≡ printed t (q.out ++ said)
+run_from n q t said e = ap (run n) (as_behind q) ∙ run_behind n q.out (silent q.state) ∙ ap (behind q.out) e

@@ -12,11 +12,12 @@ use Rattle.source_model.specs.Names.{number_of}
 use Rattle.source_model.specs.Script.{refused, spawn, switch, over, with_run_line}
 use Rattle.source_model.specs.State.{Activation, Activity, Running, Answered, Failed, State, Reached, silent}
 use Rattle.source_model.specs.Texts.{error_text}
+use Rattle.source_model.specs.Step.{run}
 use Rattle.plain_host.specs.Hosted.{Hosted, host}
 use Rattle.plain_runs.specs.Host.{Host}
 use Rattle.plain_runs.specs.declared.status.Status.{Status}
 use Rattle.plain_begins.proofs.Starting.{activities_agree}
-use Rattle.plain_stretches.specs.Gate.{gated_run, printed}
+use Rattle.plain_stretches.specs.Printing.{printed}
 use Rattle.plain_turns.specs.Asking.{count}
 use Rattle.plain_turns.specs.Resting.{Rests, HasRun}
 use Rattle.plain_births.specs.Meeting.{message}
@@ -31,7 +32,7 @@ use Rattle.run_lines.specs.Standing.{IsStanding, GoesOn}
 use Rattle.run_lines.specs.declared.current.Standing.TheVariants as standings
 use Rattle.session_text.specs.declared.commands.Command.{Command}
 use Rattle.session_text.specs.declared.commands.Command.TheVariants as commands
-use Rattle.plain_session.specs.Commands.{obeyed, gated_steps, gated_continue}
+use Rattle.plain_session.specs.Commands.{obeyed, steps_on, goes_to}
 use Rattle.plain_session.specs.Sessions.{Session, host_of, Shows, IsShown, Obeys, HasObeyed, HasBroken, IsLed, CountsFew, birth_text}
 use Rattle.plain_session.proofs.Gated.{RunsOn, run_remains, run_from}
 use Rattle.plain_session.proofs.Writing.{spawn_writes, run_text}
@@ -101,29 +102,29 @@ spawn_breaks x name taken q sh = let w = spawn_writes name q in (w.0, w.1, no_fr
 
 -- Runs.
 
-over_none : (n : ℕ) (q : Reached) → slice_get q.state.activities q.state.current ≡ None → gated_steps n q ≡ refused (codes "no activity") q
-unfolding gated_steps
-over_none n q e = ap (λ a. over a (λ all r. with_run_line (gated_run n r)) q) e
+over_none : (n : ℕ) (q : Reached) → slice_get q.state.activities q.state.current ≡ None → steps_on n q ≡ refused (codes "no activity") q
+unfolding steps_on
+over_none n q e = ap (λ a. over a (λ all r. with_run_line (run n r)) q) e
 
-over_running : (n : ℕ) (q : Reached) (all : List Activation) → slice_get q.state.activities q.state.current ≡ Some (Running all) → gated_steps n q ≡ with_run_line (gated_run n q)
-unfolding gated_steps
-over_running n q all e = ap (λ a. over a (λ all r. with_run_line (gated_run n r)) q) e
+over_running : (n : ℕ) (q : Reached) (all : List Activation) → slice_get q.state.activities q.state.current ≡ Some (Running all) → steps_on n q ≡ with_run_line (run n q)
+unfolding steps_on
+over_running n q all e = ap (λ a. over a (λ all r. with_run_line (run n r)) q) e
 
-over_answered : (n : ℕ) (q : Reached) (v : Value) → slice_get q.state.activities q.state.current ≡ Some (Answered v) → gated_steps n q ≡ refused (codes "ended") q
-unfolding gated_steps
-over_answered n q v e = ap (λ a. over a (λ all r. with_run_line (gated_run n r)) q) e
+over_answered : (n : ℕ) (q : Reached) (v : Value) → slice_get q.state.activities q.state.current ≡ Some (Answered v) → steps_on n q ≡ refused (codes "ended") q
+unfolding steps_on
+over_answered n q v e = ap (λ a. over a (λ all r. with_run_line (run n r)) q) e
 
-over_failed : (n : ℕ) (q : Reached) (x : ErrorName) (p : Place) → slice_get q.state.activities q.state.current ≡ Some (Failed x p) → gated_steps n q ≡ refused (codes "ended") q
-unfolding gated_steps
-over_failed n q x p e = ap (λ a. over a (λ all r. with_run_line (gated_run n r)) q) e
+over_failed : (n : ℕ) (q : Reached) (x : ErrorName) (p : Place) → slice_get q.state.activities q.state.current ≡ Some (Failed x p) → steps_on n q ≡ refused (codes "ended") q
+unfolding steps_on
+over_failed n q x p e = ap (λ a. over a (λ all r. with_run_line (run n r)) q) e
 
-refused_obeys : (x : Session) (n : ℕ) (why : List ℕ) (q : Reached) → Shows x q.state → gated_steps n q ≡ refused why q → Shows x (gated_steps n q).state × ((gated_steps n q).out ≡ q.out ++ line (codes "refused " ++ why))
+refused_obeys : (x : Session) (n : ℕ) (why : List ℕ) (q : Reached) → Shows x q.state → steps_on n q ≡ refused why q → Shows x (steps_on n q).state × ((steps_on n q).out ≡ q.out ++ line (codes "refused " ++ why))
 refused_obeys x n why q sh e = (subst (λ (t : Reached). Shows x t.state) (sym e) sh, ap (λ (t : Reached). t.out) e)
 
-pub nobody_obeys : (x : Session) (n : ℕ) → ((s : State) → Rests (host_of x) s → IsStanding s standings.Nobody) → Obeys x x (gated_steps n) (line (codes "refused no activity"))
+pub nobody_obeys : (x : Session) (n : ℕ) → ((s : State) → Rests (host_of x) s → IsStanding s standings.Nobody) → Obeys x x (steps_on n) (line (codes "refused no activity"))
 nobody_obeys x n is q sh = refused_obeys x n (codes "no activity") q sh (over_none n q (is q.state sh.rests))
 
-pub ended_obeys : (x : Session) (n : ℕ) → ((s : State) → Rests (host_of x) s → IsStanding s standings.Ended) → Obeys x x (gated_steps n) (line (codes "refused ended"))
+pub ended_obeys : (x : Session) (n : ℕ) → ((s : State) → Rests (host_of x) s → IsStanding s standings.Ended) → Obeys x x (steps_on n) (line (codes "refused ended"))
 ended_obeys x n is q sh = elim (is q.state sh.rests) [
   | inl a ↦ refused_obeys x n (codes "ended") q sh (over_answered n q a.0 a.1)
   | inr f ↦ refused_obeys x n (codes "ended") q sh (over_failed n q f.0 f.1 f.2)
@@ -137,8 +138,8 @@ module _ (x y : Session) (n : ℕ) (f : Follows x y) (k : Counts) (old new : Opt
     pub so_many : q.state.steps + n - q.state.steps ≡ n
     so_many = omega arith
 
-    pub runs_to : gated_run n q ≡ printed has.state (q.out ++ ran.said)
-    runs_to = run_from n q has.state ran.said (ap (λ k. gated_run k (silent q.state)) (sym so_many) ∙ has.runs)
+    pub runs_to : run n q ≡ printed has.state (q.out ++ ran.said)
+    runs_to = run_from n q has.state ran.said (ap (λ k. run k (silent q.state)) (sym so_many) ∙ has.runs)
 
     pub on : RunsOn n q.state has.state
     on = subst (λ (t : Reached). RunsOn n q.state t.state) runs_to (run_remains n q)
@@ -161,14 +162,14 @@ module _ (x y : Session) (n : ℕ) (f : Follows x y) (k : Counts) (old new : Opt
         let all = on.activities in
         omega (arith, many, still, was, before, after, same, all)
 
-    goes_obeyed : (all : List Activation) (text : List ℕ) → slice_get q.state.activities q.state.current ≡ Some (Running all) → text ≡ run_line has.state → Shows y (gated_steps n q).state × ((gated_steps n q).out ≡ q.out ++ (ran.said ++ text))
+    goes_obeyed : (all : List Activation) (text : List ℕ) → slice_get q.state.activities q.state.current ≡ Some (Running all) → text ≡ run_line has.state → Shows y (steps_on n q).state × ((steps_on n q).out ≡ q.out ++ (ran.said ++ text))
     goes_obeyed all text here says =
-        let e : gated_steps n q ≡ with_run_line (printed has.state (q.out ++ ran.said)) = over_running n q all here ∙ ap with_run_line runs_to in (
+        let e : steps_on n q ≡ with_run_line (printed has.state (q.out ++ ran.said)) = over_running n q all here ∙ ap with_run_line runs_to in (
           subst (λ (t : Reached). Shows y t.state) (sym e) shows_run,
           ap (λ (t : Reached). t.out) e ∙ append_assoc q.out ran.said (run_line has.state) ∙ ap (λ t. q.out ++ (ran.said ++ t)) (sym says),
         )
 
-  pub run_obeyed : (text : List ℕ) → ((s : State) → Rests (host_of x) s → IsStanding s standings.Goes) → ((s : State) → Rests (host_of y) s → s.core ≡ y.language.core → text ≡ run_line s) → HasObeyed x y (gated_steps n) old new text
+  pub run_obeyed : (text : List ℕ) → ((s : State) → Rests (host_of x) s → IsStanding s standings.Goes) → ((s : State) → Rests (host_of y) s → s.core ≡ y.language.core → text ≡ run_line s) → HasObeyed x y (steps_on n) old new text
   run_obeyed text goes says = record {
     said = ran.said;
     takes = ran.takes;
@@ -176,76 +177,76 @@ module _ (x y : Session) (n : ℕ) (f : Follows x y) (k : Counts) (old new : Opt
   }
 
 -- A run that broke off.
-pub run_broken : (x : Session) (n : ℕ) (old new : Option (List ℕ)) → ((s : State) → Rests (host_of x) s → IsStanding s standings.Goes) → RunBroke n x.language (host_of x) old new → HasBroken x (gated_steps n) old new
+pub run_broken : (x : Session) (n : ℕ) (old new : Option (List ℕ)) → ((s : State) → Rests (host_of x) s → IsStanding s standings.Goes) → RunBroke n x.language (host_of x) old new → HasBroken x (steps_on n) old new
 run_broken x n old new goes broke q sh =
     let g = goes q.state sh.rests in
-    let t = gated_run n (silent q.state) in
+    let t = run n (silent q.state) in
     (t.out ++ run_line t.state, ap (λ (r : Reached). r.out) (over_running n q g.0 g.1) ∙ run_text n q, front_of_first old new t.out (run_line t.state) (broke q.state sh.rests sh.spoken))
 
 -- Runs to a count of steps.
 
 abbrev Onward : ℕ → List Activation → Reached → Reached
-Onward n all q = if nat_le q.state.steps n then with_run_line (gated_run (n - q.state.steps) q) else refused (codes "past") q
+Onward n all q = if nat_le q.state.steps n then with_run_line (run (n - q.state.steps) q) else refused (codes "past") q
 
-continues_over : (n : ℕ) (x : Option Activity) (q : Reached) → q.state.steps ≤ n → over x (Onward n) q ≡ over x (λ all r. with_run_line (gated_run (n - q.state.steps) r)) q
+continues_over : (n : ℕ) (x : Option Activity) (q : Reached) → q.state.steps ≤ n → over x (Onward n) q ≡ over x (λ all r. with_run_line (run (n - q.state.steps) r)) q
 continues_over n None q le = refl
 continues_over n (Some (Running all)) q le = cond-true (nat_le q.state.steps n) _ _ (le-leb q.state.steps n le)
 continues_over n (Some (Answered v)) q le = refl
 continues_over n (Some (Failed e p)) q le = refl
 
-continues_as : (n k : ℕ) (q : Reached) → q.state.steps ≤ n → k ≡ n - q.state.steps → gated_continue n q ≡ gated_steps k q
-unfolding gated_continue gated_steps
-continues_as n k q le e = continues_over n (slice_get q.state.activities q.state.current) q le ∙ ap (λ m. over (slice_get q.state.activities q.state.current) (λ all r. with_run_line (gated_run m r)) q) (sym e)
+continues_as : (n k : ℕ) (q : Reached) → q.state.steps ≤ n → k ≡ n - q.state.steps → goes_to n q ≡ steps_on k q
+unfolding goes_to steps_on
+continues_as n k q le e = continues_over n (slice_get q.state.activities q.state.current) q le ∙ ap (λ m. over (slice_get q.state.activities q.state.current) (λ all r. with_run_line (run m r)) q) (sym e)
 
 module _ (x : Session) (n k done : ℕ) (is : done ≡ count (host_of x)) (le : done ≤ n) (left : k ≡ n - done) where
-  same_run : (q : Reached) → Shows x q.state → gated_continue n q ≡ gated_steps k q
+  same_run : (q : Reached) → Shows x q.state → goes_to n q ≡ steps_on k q
   same_run q sh = let steps = is ∙ counts_as (host_of x) q.state sh.rests in continues_as n k q (omega (arith, steps, le)) (left ∙ ap (λ m. n - m) steps)
 
-  pub continue_obeyed : (y : Session) (old new : Option (List ℕ)) (text : List ℕ) → HasObeyed x y (gated_steps k) old new text → HasObeyed x y (gated_continue n) old new text
+  pub continue_obeyed : (y : Session) (old new : Option (List ℕ)) (text : List ℕ) → HasObeyed x y (steps_on k) old new text → HasObeyed x y (goes_to n) old new text
   continue_obeyed y old new text o = record {
     said = o.said;
     takes = o.takes;
     obeys = λ q sh. subst (λ (t : Reached). Shows y t.state × (t.out ≡ q.out ++ (o.said ++ text))) (sym (same_run q sh)) (o.obeys q sh);
   }
 
-  pub continue_broken : (old new : Option (List ℕ)) → HasBroken x (gated_steps k) old new → HasBroken x (gated_continue n) old new
+  pub continue_broken : (old new : Option (List ℕ)) → HasBroken x (steps_on k) old new → HasBroken x (goes_to n) old new
   continue_broken old new b q sh = let t = b q sh in (t.0, ap (λ (r : Reached). r.out) (same_run q sh) ∙ t.1, t.2)
 
 past_over : (n : ℕ) (all : List Activation) (x : Option Activity) (q : Reached) → x ≡ Some (Running all) → n < q.state.steps → over x (Onward n) q ≡ refused (codes "past") q
 past_over n all x q here lt = ap (λ a. over a (Onward n) q) here ∙ cond-false (nat_le q.state.steps n) _ _ (lt-leb q.state.steps n lt)
 
-past_is : (n : ℕ) (all : List Activation) (q : Reached) → slice_get q.state.activities q.state.current ≡ Some (Running all) → n < q.state.steps → gated_continue n q ≡ refused (codes "past") q
-unfolding gated_continue
+past_is : (n : ℕ) (all : List Activation) (q : Reached) → slice_get q.state.activities q.state.current ≡ Some (Running all) → n < q.state.steps → goes_to n q ≡ refused (codes "past") q
+unfolding goes_to
 past_is n all q here lt = past_over n all (slice_get q.state.activities q.state.current) q here lt
 
 refused_as : (x : Session) (does : Reached → Reached) (why : List ℕ) (q : Reached) → Shows x q.state → does q ≡ refused why q → Shows x (does q).state × ((does q).out ≡ q.out ++ line (codes "refused " ++ why))
 refused_as x does why q sh e = (subst (λ (t : Reached). Shows x t.state) (sym e) sh, ap (λ (t : Reached). t.out) e)
 
-pub past_obeys : (x : Session) (n done : ℕ) → done ≡ count (host_of x) → n < done → ((s : State) → Rests (host_of x) s → IsStanding s standings.Goes) → Obeys x x (gated_continue n) (line (codes "refused past"))
+pub past_obeys : (x : Session) (n done : ℕ) → done ≡ count (host_of x) → n < done → ((s : State) → Rests (host_of x) s → IsStanding s standings.Goes) → Obeys x x (goes_to n) (line (codes "refused past"))
 past_obeys x n done is lt goes q sh =
     let g = goes q.state sh.rests in
     let steps = is ∙ counts_as (host_of x) q.state sh.rests in
-    refused_as x (gated_continue n) (codes "past") q sh (past_is n g.0 q g.1 (omega (arith, steps, lt)))
+    refused_as x (goes_to n) (codes "past") q sh (past_is n g.0 q g.1 (omega (arith, steps, lt)))
 
-idle_over : (n : ℕ) (q : Reached) → slice_get q.state.activities q.state.current ≡ None → gated_continue n q ≡ refused (codes "no activity") q
-unfolding gated_continue
+idle_over : (n : ℕ) (q : Reached) → slice_get q.state.activities q.state.current ≡ None → goes_to n q ≡ refused (codes "no activity") q
+unfolding goes_to
 idle_over n q e = ap (λ a. over a (Onward n) q) e
 
-answered_over : (n : ℕ) (q : Reached) (v : Value) → slice_get q.state.activities q.state.current ≡ Some (Answered v) → gated_continue n q ≡ refused (codes "ended") q
-unfolding gated_continue
+answered_over : (n : ℕ) (q : Reached) (v : Value) → slice_get q.state.activities q.state.current ≡ Some (Answered v) → goes_to n q ≡ refused (codes "ended") q
+unfolding goes_to
 answered_over n q v e = ap (λ a. over a (Onward n) q) e
 
-failed_over : (n : ℕ) (q : Reached) (x : ErrorName) (p : Place) → slice_get q.state.activities q.state.current ≡ Some (Failed x p) → gated_continue n q ≡ refused (codes "ended") q
-unfolding gated_continue
+failed_over : (n : ℕ) (q : Reached) (x : ErrorName) (p : Place) → slice_get q.state.activities q.state.current ≡ Some (Failed x p) → goes_to n q ≡ refused (codes "ended") q
+unfolding goes_to
 failed_over n q x p e = ap (λ a. over a (Onward n) q) e
 
-pub nobody_continues : (x : Session) (n : ℕ) → ((s : State) → Rests (host_of x) s → IsStanding s standings.Nobody) → Obeys x x (gated_continue n) (line (codes "refused no activity"))
-nobody_continues x n is q sh = refused_as x (gated_continue n) (codes "no activity") q sh (idle_over n q (is q.state sh.rests))
+pub nobody_continues : (x : Session) (n : ℕ) → ((s : State) → Rests (host_of x) s → IsStanding s standings.Nobody) → Obeys x x (goes_to n) (line (codes "refused no activity"))
+nobody_continues x n is q sh = refused_as x (goes_to n) (codes "no activity") q sh (idle_over n q (is q.state sh.rests))
 
-pub ended_continues : (x : Session) (n : ℕ) → ((s : State) → Rests (host_of x) s → IsStanding s standings.Ended) → Obeys x x (gated_continue n) (line (codes "refused ended"))
+pub ended_continues : (x : Session) (n : ℕ) → ((s : State) → Rests (host_of x) s → IsStanding s standings.Ended) → Obeys x x (goes_to n) (line (codes "refused ended"))
 ended_continues x n is q sh = elim (is q.state sh.rests) [
-  | inl a ↦ refused_as x (gated_continue n) (codes "ended") q sh (answered_over n q a.0 a.1)
-  | inr f ↦ refused_as x (gated_continue n) (codes "ended") q sh (failed_over n q f.0 f.1 f.2)
+  | inl a ↦ refused_as x (goes_to n) (codes "ended") q sh (answered_over n q a.0 a.1)
+  | inr f ↦ refused_as x (goes_to n) (codes "ended") q sh (failed_over n q f.0 f.1 f.2)
 ]
 
 -- A session's parts before and behind a call.
@@ -277,8 +278,8 @@ module _ (x : Session) (old : Hosted) (room : ℕ) (language : Language) (i v : 
   pub known_inside : IsShown x → KnowsCore (host old) language.core
   known_inside shown = let s : IsShown (of_parts old room language i v) = subst IsShown (sym is) shown in s.1.known
 
-  pub broken_inside : (n : ℕ) (taken now : Option (List ℕ)) → ((s : State) → Rests (host_of x) s → IsStanding s standings.Goes) → RunBroke n language (host old) taken now → HasBroken x (gated_steps n) taken now
-  broken_inside n taken now goes broke = subst (λ (z : Session). HasBroken z (gated_steps n) taken now) is (run_broken (of_parts old room language i v) n taken now (goes_inside goes) broke)
+  pub broken_inside : (n : ℕ) (taken now : Option (List ℕ)) → ((s : State) → Rests (host_of x) s → IsStanding s standings.Goes) → RunBroke n language (host old) taken now → HasBroken x (steps_on n) taken now
+  broken_inside n taken now goes broke = subst (λ (z : Session). HasBroken z (steps_on n) taken now) is (run_broken (of_parts old room language i v) n taken now (goes_inside goes) broke)
 
 -- where no object was made, and the room is as it was
 pub still_room : (x : Session) (old new : Hosted) (room after : ℕ) (language : Language) (i v : ℕ) → of_parts old room language i v ≡ x → IsShown x → after ≡ room → (host new).next ≡ (host old).next → (host new).next ≤ after
@@ -348,9 +349,9 @@ module _ (x : Session) (old new : Hosted) (room after : ℕ) (language : Languag
     pub went_led : j ≡ i + k.instructions → w ≡ v + k.services → IsLed x now
     went_led e f = are_led (0 + k.instructions) (0 + k.services) (Runs 0 0 k.instructions k.services (host old) (host new) Stays ran.reached) (omega (arith, e)) (omega (arith, f))
 
-    pub went_obeys : (text : List ℕ) → ((s : State) → Rests (host_of x) s → IsStanding s standings.Goes) → ((s : State) → Rests (host new) s → s.core ≡ language.core → text ≡ run_line s) → HasObeyed x now (gated_steps n) taken told text
+    pub went_obeys : (text : List ℕ) → ((s : State) → Rests (host_of x) s → IsStanding s standings.Goes) → ((s : State) → Rests (host new) s → s.core ≡ language.core → text ≡ run_line s) → HasObeyed x now (steps_on n) taken told text
     went_obeys text goes says =
-        let Q : Session → Type 0 = λ z. HasObeyed z now (gated_steps n) taken told text in
+        let Q : Session → Type 0 = λ z. HasObeyed z now (steps_on n) taken told text in
         subst Q is (run_obeyed before now n follows k taken told ran text (λ s r. goes s (subst (λ (z : Session). Rests (host_of z) s) is r)) says)
 
 -- Nothing was done.
@@ -391,19 +392,19 @@ spawned_says x y c name given taken text same is o =
 pub spawn_wants : (x : Session) (c : Command) (name : List ℕ) (taken : Option (List ℕ)) → c ≡ commands.Spawn name → HasBroken x (obeyed c) taken taken
 spawn_wants x c name taken is = subst (λ (d : Reached → Reached). HasBroken x d taken taken) (sym (spawn_is c name is)) (spawn_breaks x name taken)
 
-pub run_is : (c : Command) (n : ℕ) → c ≡ commands.Run n → obeyed c ≡ gated_steps n
+pub run_is : (c : Command) (n : ℕ) → c ≡ commands.Run n → obeyed c ≡ steps_on n
 unfolding obeyed
 run_is c n e = ap obeyed e
 
-pub continue_is : (c : Command) (n : ℕ) → c ≡ commands.Continue n → obeyed c ≡ gated_continue n
+pub continue_is : (c : Command) (n : ℕ) → c ≡ commands.Continue n → obeyed c ≡ goes_to n
 unfolding obeyed
 continue_is c n e = ap obeyed e
 
-pub step_is : (c : Command) → c ≡ commands.Step → obeyed c ≡ gated_steps 1
+pub step_is : (c : Command) → c ≡ commands.Step → obeyed c ≡ steps_on 1
 unfolding obeyed
 step_is c e = ap obeyed e
 
-pub interrupt_is : (c : Command) (n : ℕ) → c ≡ commands.Interrupt n → obeyed c ≡ gated_steps n
+pub interrupt_is : (c : Command) (n : ℕ) → c ≡ commands.Interrupt n → obeyed c ≡ steps_on n
 unfolding obeyed
 interrupt_is c n e = ap obeyed e
 

@@ -11,10 +11,10 @@ use Rattle.source_model.specs.Sends.{Outcome, begun, enters}
 use Rattle.source_model.specs.State.{Activation, Activity, Running, Answered, Failed, State, Reached, silent}
 use Rattle.source_model.specs.Texts.{error_text}
 use Rattle.source_model.proofs.Keeping.{either}
-use Rattle.plain_stretches.specs.Gate.{gated_run}
+use Rattle.source_model.specs.Step.{run}
 use Rattle.session_text.specs.declared.commands.Command.{Command}
 use Rattle.session_text.specs.declared.commands.Command.TheVariants as commands
-use Rattle.plain_session.specs.Commands.{obeyed, all_obeyed, gated_steps, gated_continue}
+use Rattle.plain_session.specs.Commands.{obeyed, all_obeyed, steps_on, goes_to}
 use Rattle.plain_session.proofs.Gated.{behind, run_behind, as_behind}
 
 abbrev pub Writes : Reached → Reached → Type 0
@@ -44,33 +44,33 @@ spawn_writes name r =
     either (Writes r) (nat_lt (length r.state.activities) 4) (spawn_met met r) (refused (codes "too many activities") r) (met_writes met r) (refuses (codes "too many activities") r)
 
 -- what a run prints, and its line
-pub run_text : (n : ℕ) (r : Reached) → (with_run_line (gated_run n r)).out ≡ r.out ++ ((gated_run n (silent r.state)).out ++ run_line (gated_run n (silent r.state)).state)
+pub run_text : (n : ℕ) (r : Reached) → (with_run_line (run n r)).out ≡ r.out ++ ((run n (silent r.state)).out ++ run_line (run n (silent r.state)).state)
 run_text n r =
-    let t = gated_run n (silent r.state) in
-    let same : gated_run n r ≡ behind r.out t = ap (gated_run n) (as_behind r) ∙ run_behind n r.out (silent r.state) in
+    let t = run n (silent r.state) in
+    let same : run n r ≡ behind r.out t = ap (run n) (as_behind r) ∙ run_behind n r.out (silent r.state) in
     ap (λ (q : Reached). q.out ++ run_line q.state) same ∙ append_assoc r.out t.out (run_line t.state)
 
-run_writes : (n : ℕ) (r : Reached) → Writes r (with_run_line (gated_run n r))
-run_writes n r = ((gated_run n (silent r.state)).out ++ run_line (gated_run n (silent r.state)).state, run_text n r)
+run_writes : (n : ℕ) (r : Reached) → Writes r (with_run_line (run n r))
+run_writes n r = ((run n (silent r.state)).out ++ run_line (run n (silent r.state)).state, run_text n r)
 
-over_writes : (n : ℕ) (x : Option Activity) (r : Reached) → Writes r (over x (λ all q. with_run_line (gated_run n q)) r)
+over_writes : (n : ℕ) (x : Option Activity) (r : Reached) → Writes r (over x (λ all q. with_run_line (run n q)) r)
 over_writes n None r = refuses (codes "no activity") r
 over_writes n (Some (Running all)) r = run_writes n r
 over_writes n (Some (Answered v)) r = refuses (codes "ended") r
 over_writes n (Some (Failed e p)) r = refuses (codes "ended") r
 
-gated_steps_writes : (n : ℕ) (r : Reached) → Writes r (gated_steps n r)
-unfolding gated_steps
+gated_steps_writes : (n : ℕ) (r : Reached) → Writes r (steps_on n r)
+unfolding steps_on
 gated_steps_writes n r = over_writes n (slice_get r.state.activities r.state.current) r
 
-continue_over : (n : ℕ) (x : Option Activity) (r : Reached) → Writes r (over x (λ all q. if nat_le q.state.steps n then with_run_line (gated_run (n - q.state.steps) q) else refused (codes "past") q) r)
+continue_over : (n : ℕ) (x : Option Activity) (r : Reached) → Writes r (over x (λ all q. if nat_le q.state.steps n then with_run_line (run (n - q.state.steps) q) else refused (codes "past") q) r)
 continue_over n None r = refuses (codes "no activity") r
-continue_over n (Some (Running all)) r = either (Writes r) (nat_le r.state.steps n) (with_run_line (gated_run (n - r.state.steps) r)) (refused (codes "past") r) (run_writes (n - r.state.steps) r) (refuses (codes "past") r)
+continue_over n (Some (Running all)) r = either (Writes r) (nat_le r.state.steps n) (with_run_line (run (n - r.state.steps) r)) (refused (codes "past") r) (run_writes (n - r.state.steps) r) (refuses (codes "past") r)
 continue_over n (Some (Answered v)) r = refuses (codes "ended") r
 continue_over n (Some (Failed e p)) r = refuses (codes "ended") r
 
-continue_writes : (n : ℕ) (r : Reached) → Writes r (gated_continue n r)
-unfolding gated_continue
+continue_writes : (n : ℕ) (r : Reached) → Writes r (goes_to n r)
+unfolding goes_to
 continue_writes n r = continue_over n (slice_get r.state.activities r.state.current) r
 
 switch_writes : (k : ℕ) (r : Reached) → Writes r (switch k r)

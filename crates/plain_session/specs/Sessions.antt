@@ -30,7 +30,7 @@ host_of x = host x.hosted
 pub record Shows (x : Session) (s : State) : Type 0 where
   pub rests : Rests (host_of x) s
   pub spoken : IsSpoken x.language s
-  pub known : KnowsCore (host_of x) x.language.core
+  pub known : KnowsCore (host_of x) x.language
   pub room : (host_of x).next ≤ x.room
 
 abbrev pub IsShown : Session → Type 0

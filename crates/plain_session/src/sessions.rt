@@ -19,7 +19,7 @@ ghost use Rattle.plain_turns.specs.Resting.{Rests};
 ghost use Rattle.world_blocks.specs.Sessions.{session_names};
 ghost use Rattle.world_state.specs.Begun.{begun};
 ghost use Rattle.world_test.specs.Further.{starts_fixed};
-ghost use Rattle.plain_session.specs.Commands.{is_built, obeyed, gated_steps, gated_continue};
+ghost use Rattle.plain_session.specs.Commands.{is_built, obeyed, steps_on, goes_to};
 ghost use Rattle.plain_session.specs.Sessions.{host_of, Shows, IsShown, Obeys, HasObeyed, HasBroken, IsLed, CanCount, CountsFew, birth_text};
 
 use io_ports::Sink;
@@ -191,12 +191,12 @@ impl Session {
         requires fits { CanCount self.old }
         requires goes { GoesOn (host_of self.old) }
         requires stands { (s : State) → Rests (host_of self.old) s → IsStanding s standings.Goes }
-        ensures obeys { IfOk result (λ t. HasObeyed self.old self.new (gated_steps steps) (K.taken out.old) (K.taken out.new) (line_text t)) }
+        ensures obeys { IfOk result (λ t. HasObeyed self.old self.new (steps_on steps) (K.taken out.old) (K.taken out.new) (line_text t)) }
         ensures room { IfOk result HasRoom }
         ensures counted { IfOk result (λ t. count (host_of self.new) ≤ count (host_of self.old) + steps) }
         ensures led { IfOk result (λ t. IsLed self.old self.new) }
         ensures rose { IfOk result (λ t. CountsFew self.old self.new) }
-        ensures broken { OnErr result (HasBroken self.old (gated_steps steps) (K.taken out.old) (K.taken out.new)) }
+        ensures broken { OnErr result (HasBroken self.old (steps_on steps) (K.taken out.old) (K.taken out.new)) }
         ensures later { K.faults out.old ≤ K.faults out.new }
         ensures cause { IsErrOf result Write → Rose (K.faults out.old) (K.faults out.new) }
     {
@@ -224,12 +224,12 @@ impl Session {
         requires few { steps ≤ 1000000000 }
         requires counted { count (host_of self.old) ≤ 2 ^ 60 }
         requires fits { CanCount self.old }
-        ensures obeys { IfOk result (λ t. HasObeyed self.old self.new (gated_steps steps) (K.taken out.old) (K.taken out.new) (line_text t)) }
+        ensures obeys { IfOk result (λ t. HasObeyed self.old self.new (steps_on steps) (K.taken out.old) (K.taken out.new) (line_text t)) }
         ensures room { IfOk result HasRoom }
         ensures counted { IfOk result (λ t. count (host_of self.new) ≤ count (host_of self.old) + steps) }
         ensures led { IfOk result (λ t. IsLed self.old self.new) }
         ensures rose { IfOk result (λ t. CountsFew self.old self.new) }
-        ensures broken { OnErr result (HasBroken self.old (gated_steps steps) (K.taken out.old) (K.taken out.new)) }
+        ensures broken { OnErr result (HasBroken self.old (steps_on steps) (K.taken out.old) (K.taken out.new)) }
         ensures later { K.faults out.old ≤ K.faults out.new }
         ensures cause { IsErrOf result Write → Rose (K.faults out.old) (K.faults out.new) }
     {
@@ -253,12 +253,12 @@ impl Session {
         requires fits { CanCount self.old }
         requires goes { GoesOn (host_of self.old) }
         requires stands { (s : State) → Rests (host_of self.old) s → IsStanding s standings.Goes }
-        ensures obeys { IfOk result (λ t. HasObeyed self.old self.new (gated_continue steps) (K.taken out.old) (K.taken out.new) (line_text t)) }
+        ensures obeys { IfOk result (λ t. HasObeyed self.old self.new (goes_to steps) (K.taken out.old) (K.taken out.new) (line_text t)) }
         ensures room { IfOk result HasRoom }
         ensures counted { IfOk result (λ t. count (host_of self.new) ≤ count (host_of self.old) + steps) }
         ensures led { IfOk result (λ t. IsLed self.old self.new) }
         ensures rose { IfOk result (λ t. CountsFew self.old self.new) }
-        ensures broken { OnErr result (HasBroken self.old (gated_continue steps) (K.taken out.old) (K.taken out.new)) }
+        ensures broken { OnErr result (HasBroken self.old (goes_to steps) (K.taken out.old) (K.taken out.new)) }
         ensures later { K.faults out.old ≤ K.faults out.new }
         ensures cause { IsErrOf result Write → Rose (K.faults out.old) (K.faults out.new) }
     {
@@ -280,12 +280,12 @@ impl Session {
         requires few { steps ≤ 1000000000 }
         requires counted { count (host_of self.old) ≤ 2 ^ 60 }
         requires fits { CanCount self.old }
-        ensures obeys { IfOk result (λ t. HasObeyed self.old self.new (gated_continue steps) (K.taken out.old) (K.taken out.new) (line_text t)) }
+        ensures obeys { IfOk result (λ t. HasObeyed self.old self.new (goes_to steps) (K.taken out.old) (K.taken out.new) (line_text t)) }
         ensures room { IfOk result HasRoom }
         ensures counted { IfOk result (λ t. count (host_of self.new) ≤ count (host_of self.old) + steps) }
         ensures led { IfOk result (λ t. IsLed self.old self.new) }
         ensures rose { IfOk result (λ t. CountsFew self.old self.new) }
-        ensures broken { OnErr result (HasBroken self.old (gated_continue steps) (K.taken out.old) (K.taken out.new)) }
+        ensures broken { OnErr result (HasBroken self.old (goes_to steps) (K.taken out.old) (K.taken out.new)) }
         ensures later { K.faults out.old ≤ K.faults out.new }
         ensures cause { IsErrOf result Write → Rose (K.faults out.old) (K.faults out.new) }
     {

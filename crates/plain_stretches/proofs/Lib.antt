@@ -4,7 +4,7 @@ pub mod Settled
 pub mod Closing
 pub mod Waiting
 pub mod Named
-pub mod Gated
+pub mod Further
 pub mod Nodes
 pub mod Joining
 pub mod Stretches

@@ -43,10 +43,8 @@ use Rattle.plain_contexts.proofs.Ending.{return_ends, end_ends}
 use Rattle.plain_contexts.proofs.Literals.{literals_make}
 use Rattle.plain_contexts.proofs.Reading.{reads}
 use Rattle.plain_unwinds.proofs.Returning.{home_asks}
-use Rattle.plain_stretches.specs.Gate.{is_built, gated_step}
 use Rattle.plain_stretches.specs.Standing.{IsSound, IsOn, left_of}
-use Rattle.plain_stretches.specs.Stretches.{AreFit, Performs as HasPerformed, Halts, AtGoal, AtSend, AtPrimitive, AtLack, AtHome, AtFull, AtEnd}
-use Rattle.plain_stretches.proofs.Gated.{gate_is, built_step}
+use Rattle.plain_stretches.specs.Stretches.{AreFit, Performs as HasPerformed, Halts, AtGoal, AtSend, AtPrimitive, AtHome, AtFull, AtEnd}
 use Rattle.plain_stretches.proofs.Named.{named_there}
 use Rattle.plain_stretches.proofs.Polls.{polls_stop}
 use Rattle.plain_stretches.proofs.Waiting.{polls_wait}
@@ -63,15 +61,11 @@ pub record Halted (z : Sense) (h : Host) (s : State) (on : IsOn z h s) : Type 0 
 
 -- what a node does: its step, or it asks for a service
 pub data Done (z : Sense) (h : Host) (s : State) (on : IsOn z h s) : Type 0 where
-  Steps : gated_step s ≡ step s → DoesStep z h s → Done z h s on
+  Steps : DoesStep z h s → Done z h s on
   Asks : Halted z h s on → Done z h s on
 
 abbrev on_of : (z : Sense) (h : Host) (s : State) → IsSound z h s → (b n : ℕ) (node : Node) → RunsAt h b n node → IsOn z h s
 on_of z h s x b n node r = record { sound = x; body = b; number = n; node = node; at = r }
-
--- a node that is built
-simply : (z : Sense) (h : Host) (s : State) (x : IsSound z h s) (b n : ℕ) (node : Node) (r : RunsAt h b n node) → (let at = at_node_of z h s b n node x.stands r in is_built (here_of s at.young at.older) node ≡ true) → gated_step s ≡ step s
-simply z h s x b n node r e = built_step z h s b n node r (at_node_of z h s b n node x.stands r) e
 
 sends : (z : Sense) (h : Host) (s : State) (x : IsSound z h s) → CanGo h → (b n : ℕ) (node : Node) (sel : Selector) → selector_of node ≡ Some sel → (r : RunsAt h b n node) → sel.args ≤ 5 → Done z h s (on_of z h s x b n node r)
 sends z h s x can b n node sel is r few =
@@ -86,13 +80,13 @@ sends z h s x can b n node sel is r few =
       halts = AtSend refl (record { can = can; selector = sel; is = is; sent = q; there = refl });
     })
 
-ends : (z : Sense) (h : Host) (s : State) (on : IsOn z h s) → CanGo h → gated_step s ≡ step s → EndsActivity z h s → Done z h s on
-ends z h s on can built e = Asks (record { instructions = e.instructions; few = e.few; to = e.to; goes = e.goes; trap = 9; stands = e.trap; halts = AtEnd refl (record { can = can; built = built; ends = e; there = refl }) })
+ends : (z : Sense) (h : Host) (s : State) (on : IsOn z h s) → CanGo h → EndsActivity z h s → Done z h s on
+ends z h s on can e = Asks (record { instructions = e.instructions; few = e.few; to = e.to; goes = e.goes; trap = 9; stands = e.trap; halts = AtEnd refl (record { can = can; ends = e; there = refl }) })
 
 -- an activation answers its caller, or the activity
-answers : (z : Sense) (h : Host) (s : State) (on : IsOn z h s) → CanGo h → gated_step s ≡ step s → (older : ℕ) → ((o : ℕ) → older ≡ suc o → DoesStep z h s) → (older ≡ 0 → EndsActivity z h s) → Done z h s on
-answers z h s on can built zero step last = ends z h s on can built (last refl)
-answers z h s on can built (suc o) step last = Steps built (step o refl)
+answers : (z : Sense) (h : Host) (s : State) (on : IsOn z h s) → CanGo h → (older : ℕ) → ((o : ℕ) → older ≡ suc o → DoesStep z h s) → (older ≡ 0 → EndsActivity z h s) → Done z h s on
+answers z h s on can zero step last = ends z h s on can (last refl)
+answers z h s on can (suc o) step last = Steps (step o refl)
 
 -- Primitives.
 
@@ -112,22 +106,6 @@ two_words h b n name args implied handler =
       some_primitive (is_sum name.0 args) (nat_eq name.0 INT_SUB.0) implied locals first (args + one_if handler),
     )
 
--- whether a primitive comes to an integer, by its message
-abbrev summed_of : (z : Sense) (h : Host) (s : State) (b n : ℕ) (name : Name) (args : ℕ) (implied handler : Bool) (r : RunsAt h b n (nodes.Prim name args implied handler)) → IsSound z h s → Bool
-summed_of z h s b n name args implied handler r x = (let y = at_node_of z h s b n (nodes.Prim name args implied handler) x.stands r in is_summed name.0 args (asked args implied handler (here_of s y.young y.older)))
-
-bare_gate : (handler summed : Bool) → handler ≡ false → (not handler || summed) ≡ true
-bare_gate true summed e = absurd (cc)
-bare_gate false summed e = refl
-
-summed_gate : (handler summed : Bool) → summed ≡ true → (not handler || summed) ≡ true
-summed_gate true summed e = e
-summed_gate false summed e = refl
-
-shut_gate : (handler summed : Bool) → handler ≡ true → summed ≡ false → (not handler || summed) ≡ false
-shut_gate true summed h e = e
-shut_gate false summed h e = absurd (cc)
-
 -- the words of one that asks for its service, which is their last but one
 by_service : (z : Sense) (h : Host) (s : State) (x : IsSound z h s) → CanGo h → (b n : ℕ) (name : Name) (args : ℕ) (implied handler : Bool) (r : RunsAt h b n (nodes.Prim name args implied handler))
     → (at : ℕ) → IsTrapOf h b n (nodes.Prim name args implied handler) at → AsksPrimitive h b n args implied handler at → IsPerformed z h s b n name args implied handler r
@@ -140,61 +118,25 @@ by_service z h s x can b n name args implied handler r at stands a =
     let P : ℕ → Type 0 = AsksPrimitive h b n args implied handler in
     performed name args implied handler z h s b n x.stands r can (length words - 2) (subst P here a) (omega (arith, some))
 
--- it asks, and its step is built or not
-module _ (z : Sense) (h : Host) (s : State) (x : IsSound z h s) (can : CanGo h) (b n : ℕ) (name : Name) (args : ℕ) (implied handler : Bool) (r : RunsAt h b n (nodes.Prim name args implied handler)) where
-  abbrev the_node : Node
-  the_node = nodes.Prim name args implied handler
-
-  abbrev here_on : IsOn z h s
-  here_on = on_of z h s x b n the_node r
-
-  abbrev has_performed : (q : IsPerformed z h s b n name args implied handler r) → HasPerformed z h s here_on q.asks.to
-  has_performed q = record { can = can; name = name; args = args; implied = implied; handler = handler; is = refl; at = r; performed = q; there = refl }
-
-  asks_bare : handler ≡ false → IsPerformed z h s b n name args implied handler r → Done z h s here_on
-  asks_bare none q = Asks (record {
-    instructions = q.asks.instructions;
-    few = omega (arith, q.asks.few);
-    to = q.asks.to;
-    goes = q.asks.goes;
-    trap = 3;
-    stands = q.asks.trap;
-    halts = AtPrimitive refl (record { performs = has_performed q; bare = none; built = simply z h s x b n the_node r (bare_gate handler (summed_of z h s b n name args implied handler r x) none) });
-  })
-
-  asks_lacking : handler ≡ true → IsSummed s name.0 args implied handler false → IsPerformed z h s b n name args implied handler r → Done z h s here_on
-  asks_lacking some failing q = Asks (record {
-    instructions = q.asks.instructions;
-    few = omega (arith, q.asks.few);
-    to = q.asks.to;
-    goes = q.asks.goes;
-    trap = 3;
-    stands = q.asks.trap;
-    halts = AtLack refl (record {
-      performs = has_performed q;
-      handled = some;
-      unbuilt = gate_is s q.sender q.older the_node false q.is_at.here q.is_at.node_is (shut_gate handler (is_summed name.0 args (asked args implied handler (here_of s q.sender q.older))) some (failing q.sender q.older q.is_at.here));
-    });
-  })
-
-  -- one without a handler is built, whatever its words do
-  bare_done : handler ≡ false → Performed z h s b n name args implied handler r → Done z h s here_on
-  bare_done none (DoneInWords d) = Steps (simply z h s x b n the_node r (bare_gate handler (summed_of z h s b n name args implied handler r x) none)) d
-  bare_done none (AskedFor q) = asks_bare none q
-
-  handled_done : handler ≡ true → Performs z h s b n name args implied handler → Done z h s here_on
-  handled_done some (InWords summed d) =
-      let y = at_node_of z h s b n the_node x.stands r in
-      Steps (simply z h s x b n the_node r (summed_gate handler (summed_of z h s b n name args implied handler r x) (summed y.young y.older y.at.here))) d
-  handled_done some (ByService failing at stands a) = asks_lacking some failing (by_service z h s x can b n name args implied handler r at stands a)
-
-  by_handler : (c : Bool) → handler ≡ c → Done z h s here_on
-  by_handler false none = bare_done none (primitives_ask z h s b n name args implied handler x.stands r can)
-  by_handler true some = handled_done some (primitives_perform name args implied handler z h s b n x.stands r can)
+-- Its words do its step, or it asks for service 3.
+primitive_done : (z : Sense) (h : Host) (s : State) (x : IsSound z h s) → CanGo h → (b n : ℕ) (name : Name) (args : ℕ) (implied handler : Bool) (r : RunsAt h b n (nodes.Prim name args implied handler))
+    → Performs z h s b n name args implied handler → Done z h s (on_of z h s x b n (nodes.Prim name args implied handler) r)
+primitive_done z h s x can b n name args implied handler r (InWords summed d) = Steps d
+primitive_done z h s x can b n name args implied handler r (ByService failing at stands a) =
+    let q = by_service z h s x can b n name args implied handler r at stands a in
+    Asks (record {
+      instructions = q.asks.instructions;
+      few = omega (arith, q.asks.few);
+      to = q.asks.to;
+      goes = q.asks.goes;
+      trap = 3;
+      stands = q.asks.trap;
+      halts = AtPrimitive refl (record { can = can; name = name; args = args; implied = implied; handler = handler; is = refl; at = r; performed = q; there = refl });
+    })
 
 -- A block literal makes its block, or the store is full.
 literal_done : (z : Sense) (h : Host) (s : State) (x : IsSound z h s) → CanGo h → (b n : ℕ) (body : BodyId) (r : RunsAt h b n (nodes.BlockLit body)) → Literal z h s b n body r → Done z h s (on_of z h s x b n (nodes.BlockLit body) r)
-literal_done z h s x can b n body r (Made d) = Steps (simply z h s x b n (nodes.BlockLit body) r refl) d
+literal_done z h s x can b n body r (Made d) = Steps d
 literal_done z h s x can b n body r (Full q) = Asks (record {
   instructions = q.full.instructions;
   few = omega (arith, q.full.few);
@@ -202,7 +144,7 @@ literal_done z h s x can b n body r (Full q) = Asks (record {
   goes = q.full.goes;
   trap = 8;
   stands = q.full.trap;
-  halts = AtFull refl (record { can = can; body = body; is = refl; at = r; full = q; built = simply z h s x b n (nodes.BlockLit body) r refl; there = refl });
+  halts = AtFull refl (record { can = can; body = body; is = refl; at = r; full = q; there = refl });
 })
 
 goes_home : (z : Sense) (h : Host) (s : State) (x : IsSound z h s) → CanGo h → (b n : ℕ) (r : RunsAt h b n nodes.NonLocal) → Done z h s (on_of z h s x b n nodes.NonLocal r)
@@ -215,30 +157,30 @@ goes_home z h s x can b n r =
       goes = q.asks.goes;
       trap = 4;
       stands = q.asks.trap;
-      halts = AtHome refl (record { can = can; is = refl; at = r; asks = q; built = simply z h s x b n nodes.NonLocal r refl; there = refl });
+      halts = AtHome refl (record { can = can; is = refl; at = r; asks = q; there = refl });
     })
 
 node_done : (start : ℕ) (z : Sense) (h : Host) (s : State) (x : IsSound z h s) → CanGo h → IsWellFormed s → IsPaid start h → HasMaps h → (b n : ℕ) (node : Node) (r : RunsAt h b n node) → Names h.bodies b node → IsShort 64 node
     → Done z h s (on_of z h s x b n node r)
-node_done start z h s x can formed paid maps b n (nodes.Int i) r names short = Steps (simply z h s x b n (nodes.Int i) r refl) (int_steps i short z h s b n x.stands r can tt)
-node_done start z h s x can formed paid maps b n (nodes.Str o) r names short = Steps (simply z h s x b n (nodes.Str o) r refl) (string_steps o z h s b n x.stands r can tt)
+node_done start z h s x can formed paid maps b n (nodes.Int i) r names short = Steps (int_steps i short z h s b n x.stands r can tt)
+node_done start z h s x can formed paid maps b n (nodes.Str o) r names short = Steps (string_steps o z h s b n x.stands r can tt)
 node_done start z h s x can formed paid maps b n (nodes.BlockLit k) r names short = literal_done z h s x can b n k r (literals_make z h s b n k x.stands r can start paid maps b names.0 names.1)
-node_done start z h s x can formed paid maps b n nodes.SelfRef r names short = Steps (simply z h s x b n nodes.SelfRef r refl) (self_steps z h s b n x.stands r can tt)
-node_done start z h s x can formed paid maps b n nodes.Nil r names short = Steps (simply z h s x b n nodes.Nil r refl) (nil_steps z h s b n x.stands r can tt)
-node_done start z h s x can formed paid maps b n (nodes.Read up slot) r names short = Steps (simply z h s x b n (nodes.Read up slot) r refl) (reads up slot z h s b n x.stands r can formed)
-node_done start z h s x can formed paid maps b n (nodes.Store up slot) r names short = Steps (simply z h s x b n (nodes.Store up slot) r refl) (stores up slot z h s b n x.stands r can formed)
+node_done start z h s x can formed paid maps b n nodes.SelfRef r names short = Steps (self_steps z h s b n x.stands r can tt)
+node_done start z h s x can formed paid maps b n nodes.Nil r names short = Steps (nil_steps z h s b n x.stands r can tt)
+node_done start z h s x can formed paid maps b n (nodes.Read up slot) r names short = Steps (reads up slot z h s b n x.stands r can formed)
+node_done start z h s x can formed paid maps b n (nodes.Store up slot) r names short = Steps (stores up slot z h s b n x.stands r can formed)
 node_done start z h s x can formed paid maps b n (nodes.Send sel) r names short = sends z h s x can b n (nodes.Send sel) sel refl r short
 node_done start z h s x can formed paid maps b n (nodes.SelfSend sel) r names short = sends z h s x can b n (nodes.SelfSend sel) sel refl r short
 node_done start z h s x can formed paid maps b n (nodes.Resend sel) r names short = sends z h s x can b n (nodes.Resend sel) sel refl r short
 node_done start z h s x can formed paid maps b n (nodes.Directed parent sel) r names short = sends z h s x can b n (nodes.Directed parent sel) sel refl r short
-node_done start z h s x can formed paid maps b n (nodes.Prim name args implied handler) r names short = by_handler z h s x can b n name args implied handler r handler refl
-node_done start z h s x can formed paid maps b n nodes.Drop r names short = Steps (simply z h s x b n nodes.Drop r refl) (drop_steps z h s b n x.stands r can tt)
-node_done start z h s x can formed paid maps b n nodes.Restart r names short = Steps (simply z h s x b n nodes.Restart r refl) (restart_steps z h s b n x.stands r can tt)
+node_done start z h s x can formed paid maps b n (nodes.Prim name args implied handler) r names short = primitive_done z h s x can b n name args implied handler r (primitives_perform name args implied handler z h s b n x.stands r can)
+node_done start z h s x can formed paid maps b n nodes.Drop r names short = Steps (drop_steps z h s b n x.stands r can tt)
+node_done start z h s x can formed paid maps b n nodes.Restart r names short = Steps (restart_steps z h s b n x.stands r can tt)
 node_done start z h s x can formed paid maps b n nodes.Return r names short =
-    answers z h s (on_of z h s x b n nodes.Return r) can (simply z h s x b n nodes.Return r refl) r.view.older (λ o e. return_answers z h s b n o x.stands r can e) (λ e. return_ends z h s b n x.stands r can e)
+    answers z h s (on_of z h s x b n nodes.Return r) can r.view.older (λ o e. return_answers z h s b n o x.stands r can e) (λ e. return_ends z h s b n x.stands r can e)
 node_done start z h s x can formed paid maps b n nodes.NonLocal r names short = goes_home z h s x can b n r
 node_done start z h s x can formed paid maps b n nodes.End r names short =
-    answers z h s (on_of z h s x b n nodes.End r) can (simply z h s x b n nodes.End r refl) r.view.older (λ o e. end_answers z h s b n o x.stands r can e) (λ e. end_ends z h s b n x.stands r can e)
+    answers z h s (on_of z h s x b n nodes.End r) can r.view.older (λ o e. end_answers z h s b n o x.stands r can e) (λ e. end_ends z h s b n x.stands r can e)
 
 pub goal_done : (z : Sense) (h : Host) (s : State) (on : IsOn z h s) → left_of h ≡ 0 → Halted z h s on
 goal_done z h s on none =

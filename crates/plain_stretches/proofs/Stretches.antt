@@ -15,10 +15,10 @@ use Rattle.plain_steps.specs.Paying.{IsPaid, HasMaps}
 use Rattle.plain_steps.specs.Steps.{DoesStep}
 use Rattle.plain_steps.proofs.Paying.{steps_pay}
 use Rattle.plain_prims.specs.Performing.{DoesPrint}
-use Rattle.plain_stretches.specs.Gate.{gated_step, printed}
+use Rattle.plain_stretches.specs.Printing.{printed}
 use Rattle.plain_stretches.specs.Standing.{IsOn, IsSet, left_of}
 use Rattle.plain_stretches.specs.Stretches.{AreFit, Stretch, StretchOn, PollsStretch, StepsStretch, PrintsStretch, StretchesRun}
-use Rattle.plain_stretches.proofs.Gated.{none_gated, next_gated, printed_run}
+use Rattle.plain_stretches.proofs.Further.{none_run, next_run, printed_run}
 use Rattle.plain_stretches.proofs.Named.{maps_on}
 use Rattle.plain_stretches.proofs.Nodes.{Halted, Done, Steps, Asks, goal_done, poll_done}
 use Rattle.plain_stretches.proofs.Runs.{traps_stop}
@@ -34,7 +34,7 @@ halted start z h s left on paid e x = (
     steps = 0;
     state = s;
     out = [];
-    runs = none_gated s;
+    runs = none_run s;
     counted = omega arith;
     last = h.machine;
     sense = z;
@@ -52,13 +52,13 @@ halted start z h s left on paid e x = (
   refl,
 )
 
-stepped : (start : ℕ) (z : Sense) (h : Host) (s : State) (left : ℕ) (out : List ℕ) → gated_step s ≡ step s → (d : DoesPrint h s out) → Quiet start d.sense (with_machine h d.to) (step s).state left → StretchOn start z h s (suc left) out
-stepped start z h s left out built d (x, quiet) = record {
+stepped : (start : ℕ) (z : Sense) (h : Host) (s : State) (left : ℕ) (out : List ℕ) → (d : DoesPrint h s out) → Quiet start d.sense (with_machine h d.to) (step s).state left → StretchOn start z h s (suc left) out
+stepped start z h s left out d (x, quiet) = record {
   stretch = record {
     steps = suc x.steps;
     state = x.state;
     out = out;
-    runs = next_gated x.steps s out built d.printed ∙ printed_run x.steps (step s).state x.state out x.out x.runs ∙ ap (λ y. printed x.state (out ++ y)) quiet ∙ ap (printed x.state) (append-nil out);
+    runs = next_run x.steps s out d.printed ∙ printed_run x.steps (step s).state x.state out x.out x.runs ∙ ap (λ y. printed x.state (out ++ y)) quiet ∙ ap (printed x.state) (append-nil out);
     counted = omega (arith, x.counted, d.counted);
     last = x.last;
     sense = x.sense;
@@ -81,17 +81,17 @@ stepped start z h s left out built d (x, quiet) = record {
 abbrev AllStretch : ℕ → Host → ℕ → Type 0
 AllStretch start h left = (z : Sense) (m : MachineState) (s : State) → IsOn z (with_machine h m) s → IsWellFormed s → IsPaid start (with_machine h m) → left_of (with_machine h m) ≡ left → Quiet start z (with_machine h m) s left
 
-step_stretches : (start : ℕ) (z : Sense) (h : Host) (s : State) (out : List ℕ) (left : ℕ) → AllRun h → h.current < 4 → IsWellFormed s → IsPaid start h → h.steps + word_at h.machine.memory 0x30000000 ≡ s.steps + suc left → AllStretch start h left → gated_step s ≡ step s
+step_stretches : (start : ℕ) (z : Sense) (h : Host) (s : State) (out : List ℕ) (left : ℕ) → AllRun h → h.current < 4 → IsWellFormed s → IsPaid start h → h.steps + word_at h.machine.memory 0x30000000 ≡ s.steps + suc left → AllStretch start h left
     → DoesPrint h s out → StretchOn start z h s (suc left) out
-step_stretches start z h s out left runs current formed paid far more built d =
+step_stretches start z h s out left runs current formed paid far more d =
     let g = prints_go_on h s out runs current d in
-    stepped start z h s left out built d (more d.sense d.to (step s).state g.on (steps_form s formed) (steps_pay start h d.to paid d.left d.paid) (g.left_is ∙ omega (arith, far)))
+    stepped start z h s left out d (more d.sense d.to (step s).state g.on (steps_form s formed) (steps_pay start h d.to paid d.left d.paid) (g.left_is ∙ omega (arith, far)))
 
 node_stretches : (start : ℕ) (z : Sense) (h : Host) (s : State) (left : ℕ) (on : IsOn z h s) → IsWellFormed s → IsPaid start h → left_of h ≡ suc left → AllStretch start h left → Done z h s on → Quiet start z h s (suc left)
 node_stretches start z h s left on formed paid e more (Asks x) = halted start z h s (suc left) on paid e x
-node_stretches start z h s left on formed paid e more (Steps built d) =
+node_stretches start z h s left on formed paid e more (Steps d) =
     let before : h.steps + h.machine.regs 2 ≡ s.steps = on.sound.stands.stands.steps in
-    let x = step_stretches start z h s [] left on.sound.runs on.sound.current formed paid (omega (arith, before, e)) more built (as_print z h s d) in
+    let x = step_stretches start z h s [] left on.sound.runs on.sound.current formed paid (omega (arith, before, e)) more (as_print z h s d) in
     (x.stretch, x.prints)
 
 stretches : (left start : ℕ) (z : Sense) (h : Host) (s : State) → (on : IsOn z h s) → IsWellFormed s → AreFit h → HasMaps h → IsPaid start h → left_of h ≡ left → Quiet start z h s left
@@ -106,11 +106,11 @@ pub polls_stretch : PollsStretch
 polls_stretch start z h s left formed set fit maps paid = stretches left start z h s set.on formed fit maps paid set.left_is
 
 pub prints_stretch : PrintsStretch
-prints_stretch start z h s out left formed runs current fit maps paid built d far =
-    step_stretches start z h s out left runs current formed paid far (λ y m t next forms pays less. stretches left start y (with_machine h m) t next forms fit (maps_on h m maps) pays less) built d
+prints_stretch start z h s out left formed runs current fit maps paid d far =
+    step_stretches start z h s out left runs current formed paid far (λ y m t next forms pays less. stretches left start y (with_machine h m) t next forms fit (maps_on h m maps) pays less) d
 
 pub steps_stretch : StepsStretch
-steps_stretch start z h s left formed runs current fit maps paid built d far = prints_stretch start z h s [] left formed runs current fit maps paid built (as_print z h s d) far
+steps_stretch start z h s left formed runs current fit maps paid d far = prints_stretch start z h s [] left formed runs current fit maps paid (as_print z h s d) far
 
 pub stretches_run : StretchesRun
 stretches_run start z h s left small x most far = traps_stop x.instructions x.trap most h.machine x.to x.goes x.stands (omega (arith, far, small, x.few, x.still))

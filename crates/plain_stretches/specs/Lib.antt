@@ -2,5 +2,5 @@
 pub mod Runs
 pub mod Polls
 pub mod Standing
-pub mod Gate
+pub mod Printing
 pub mod Stretches

@@ -10,7 +10,7 @@ use Rattle.sparc_machine.specs.State.{MachineState}
 use Rattle.source_model.specs.Formed.{IsWellFormed}
 use Rattle.source_model.specs.State.{Activation, Running, State, silent}
 use Rattle.source_model.specs.Soundness.{HasBody, IsFit}
-use Rattle.source_model.specs.Step.{step}
+use Rattle.source_model.specs.Step.{step, run}
 use Rattle.raw_steps.specs.Stands.{Sense}
 use Rattle.plain_words.specs.Going.{Goes, IsTrap}
 use Rattle.plain_words.specs.Moves.{Moved}
@@ -25,7 +25,7 @@ use Rattle.plain_prims.specs.Asking.{IsPerformed}
 use Rattle.plain_prims.specs.Performing.{DoesPrint}
 use Rattle.plain_contexts.specs.Literals.{IsFullHere}
 use Rattle.plain_unwinds.specs.Returning.{AsksHome}
-use Rattle.plain_stretches.specs.Gate.{not_built, printed, gated_step, gated_run}
+use Rattle.plain_stretches.specs.Printing.{printed}
 use Rattle.plain_stretches.specs.Runs.{RunsTo}
 use Rattle.plain_stretches.specs.Standing.{IsOn, IsSet, Waits, left_of}
 
@@ -53,25 +53,12 @@ pub record Performs (z : Sense) (h : Host) (s : State) (on : IsOn z h s) (to : M
   pub performed : IsPerformed z h s on.body on.number name args implied handler at
   pub there : to ≡ performed.asks.to
 
--- One that has no handler: its step is built.
-pub record IsBare (z : Sense) (h : Host) (s : State) (on : IsOn z h s) (to : MachineState) : Type 0 where
-  pub performs : Performs z h s on to
-  pub bare : performs.handler ≡ false
-  pub built : gated_step s ≡ step s
-
--- One that has a handler, and is no sum that comes to an integer: it isn't built.
-pub record Lacks (z : Sense) (h : Host) (s : State) (on : IsOn z h s) (to : MachineState) : Type 0 where
-  pub performs : Performs z h s on to
-  pub handled : performs.handler ≡ true
-  pub unbuilt : gated_step s ≡ silent (not_built s performs.performed.sender)
-
 -- A return from a home method has led to service 4.
 pub record GoesHome (z : Sense) (h : Host) (s : State) (on : IsOn z h s) (to : MachineState) : Type 0 where
   pub can : CanGo h
   pub is : on.node ≡ nodes.NonLocal
   pub at : RunsAt h on.body on.number nodes.NonLocal
   pub asks : AsksHome h on.body on.number
-  pub built : gated_step s ≡ step s
   pub there : to ≡ asks.asks.to
 
 -- A block literal that can't be paid has led to service 8.
@@ -81,13 +68,11 @@ pub record Fills (z : Sense) (h : Host) (s : State) (on : IsOn z h s) (to : Mach
   pub is : on.node ≡ nodes.BlockLit body
   pub at : RunsAt h on.body on.number (nodes.BlockLit body)
   pub full : IsFullHere z h s on.body on.number (nodes.BlockLit body) at
-  pub built : gated_step s ≡ step s
   pub there : to ≡ full.full.to
 
 -- A node that ends the oldest activation has led to service 9.
 pub record Ends (z : Sense) (h : Host) (s : State) (to : MachineState) : Type 0 where
   pub can : CanGo h
-  pub built : gated_step s ≡ step s
   pub ends : EndsActivity z h s
   pub there : to ≡ ends.to
 
@@ -95,20 +80,19 @@ pub record Ends (z : Sense) (h : Host) (s : State) (to : MachineState) : Type 0 
 pub data Halts (z : Sense) (h : Host) (s : State) (on : IsOn z h s) (trap : ℕ) (to : MachineState) : Type 0 where
   AtGoal : trap ≡ 2 → left_of h ≡ 0 → Waits z h s on to → Halts z h s on trap to
   AtSend : trap ≡ 1 → Sends z h s on to → Halts z h s on trap to
-  AtPrimitive : trap ≡ 3 → IsBare z h s on to → Halts z h s on trap to
-  AtLack : trap ≡ 3 → Lacks z h s on to → Halts z h s on trap to
+  AtPrimitive : trap ≡ 3 → Performs z h s on to → Halts z h s on trap to
   AtHome : trap ≡ 4 → GoesHome z h s on to → Halts z h s on trap to
   AtFull : trap ≡ 8 → Fills z h s on to → Halts z h s on trap to
   AtEnd : trap ≡ 9 → Ends z h s to → Halts z h s on trap to
 
--- Where the goal is `left` steps away, and the heap's room is paid for from a place on: so many of the source's steps, which are built, are done by
+-- Where the goal is `left` steps away, and the heap's room is paid for from a place on: so many of the source's steps are done by
 -- words while this is printed, and lead to the poll of a node, with the rest left of the goal; and from there to a trap. A step takes at most 512
 -- instructions.
 pub record Stretch (start : ℕ) (z : Sense) (h : Host) (s : State) (left : ℕ) : Type 0 where
   pub steps : ℕ
   pub state : State
   pub out : List ℕ
-  pub runs : gated_run steps (silent s) ≡ printed state out
+  pub runs : run steps (silent s) ≡ printed state out
   pub counted : state.steps ≡ s.steps + steps
   pub last : MachineState
   pub sense : Sense
@@ -135,19 +119,19 @@ PollsStretch = (start : ℕ) (z : Sense) (h : Host) (s : State) (left : ℕ) →
 
 -- So is there from behind a service whose words do a step, where one is left of the goal; that of a primitive may have printed.
 abbrev pub StepsStretch : Type 0
-StepsStretch = (start : ℕ) (z : Sense) (h : Host) (s : State) (left : ℕ) → IsWellFormed s → AllRun h → h.current < 4 → AreFit h → HasMaps h → IsPaid start h → gated_step s ≡ step s → DoesStep z h s → h.steps + word_at h.machine.memory 0x30000000 ≡ s.steps + suc left → StretchOn start z h s (suc left) []
+StepsStretch = (start : ℕ) (z : Sense) (h : Host) (s : State) (left : ℕ) → IsWellFormed s → AllRun h → h.current < 4 → AreFit h → HasMaps h → IsPaid start h → DoesStep z h s → h.steps + word_at h.machine.memory 0x30000000 ≡ s.steps + suc left → StretchOn start z h s (suc left) []
 
 abbrev pub PrintsStretch : Type 0
-PrintsStretch = (start : ℕ) (z : Sense) (h : Host) (s : State) (out : List ℕ) (left : ℕ) → IsWellFormed s → AllRun h → h.current < 4 → AreFit h → HasMaps h → IsPaid start h → gated_step s ≡ step s → DoesPrint h s out → h.steps + word_at h.machine.memory 0x30000000 ≡ s.steps + suc left → StretchOn start z h s (suc left) out
+PrintsStretch = (start : ℕ) (z : Sense) (h : Host) (s : State) (out : List ℕ) (left : ℕ) → IsWellFormed s → AllRun h → h.current < 4 → AreFit h → HasMaps h → IsPaid start h → DoesPrint h s out → h.steps + word_at h.machine.memory 0x30000000 ≡ s.steps + suc left → StretchOn start z h s (suc left) out
 
 -- A run of 2 to the 40th instructions or more comes to its trap.
 abbrev pub StretchesRun : Type 0
 StretchesRun = (start : ℕ) (z : Sense) (h : Host) (s : State) (left : ℕ) → left ≤ 1000000001 → (x : Stretch start z h s left) → (most : ℕ) → 2 ^ 40 ≤ most → RunsTo most x.instructions x.trap h.machine x.to
 
--- Runs behind the gate, one behind the other, are one, and print what the one and the other does.
+-- Runs, one behind the other, are one, and print what the one and the other does.
 abbrev pub RunsJoin : Type 0
-RunsJoin = (a b : ℕ) (s t u : State) (one two : List ℕ) → gated_run a (silent s) ≡ printed t one → gated_run b (silent t) ≡ printed u two → gated_run (a + b) (silent s) ≡ printed u (one ++ two)
+RunsJoin = (a b : ℕ) (s t u : State) (one two : List ℕ) → run a (silent s) ≡ printed t one → run b (silent t) ≡ printed u two → run (a + b) (silent s) ≡ printed u (one ++ two)
 
 -- and so are a run and a step
 abbrev pub StepJoins : Type 0
-StepJoins = (a : ℕ) (s t u : State) (one two : List ℕ) → gated_run a (silent s) ≡ printed t one → gated_step t ≡ printed u two → gated_run (a + 1) (silent s) ≡ printed u (one ++ two)
+StepJoins = (a : ℕ) (s t u : State) (one two : List ℕ) → run a (silent s) ≡ printed t one → step t ≡ printed u two → run (a + 1) (silent s) ≡ printed u (one ++ two)

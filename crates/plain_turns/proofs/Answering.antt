@@ -11,6 +11,7 @@ use Rattle.sparc_store.proofs.Placed.{others_stay}
 use Rattle.sparc_machine.specs.State.{MachineState}
 use Rattle.source_model.specs.Soundness.{body_in, HasBody, IsFit}
 use Rattle.source_model.specs.State.{State, Failed as Ended_by, silent, with_current}
+use Rattle.source_model.specs.Step.{step}
 use Rattle.raw_steps.proofs.Sending.{missing_is}
 use Rattle.plain_words.specs.Units.{frame_locals}
 use Rattle.plain_words.specs.Showing.{viewed}
@@ -31,7 +32,6 @@ use Rattle.plain_answers.proofs.Fitting.{assignments_fit}
 use Rattle.plain_answers.proofs.Storing.{InHeap, assignment_place}
 use Rattle.plain_lookups.specs.Telling.{begins_at}
 use Rattle.plain_unwinds.specs.Services.{fails_unmarked}
-use Rattle.plain_stretches.specs.Gate.{gated_step}
 use Rattle.plain_stretches.proofs.Stretches.{steps_stretch}
 use Rattle.plain_turns.specs.Asking.{count, place_here, found_here, cost_left}
 use Rattle.plain_turns.specs.Resting.{IsReady, IsAtTrap, HasRun}
@@ -115,7 +115,7 @@ module _ (h : Host) (from : State) (target : ℕ) (out : List ℕ) (room : ℕ) 
   found_fit holder c e = x.ready.fit c.0 (found_given holder c e)
 
   -- an error that the source's step is
-  pub error_turn : (e : ErrorName) → gated_step x.state ≡ silent (with_current (Ended_by e (place_here h)) x.state) → (goal : ℕ) → goal ≤ 1000000000 → HasRun (fails_unmarked goal (cost_left h) e (place_here h) h) from target out
+  pub error_turn : (e : ErrorName) → step x.state ≡ silent (with_current (Ended_by e (place_here h)) x.state) → (goal : ℕ) → goal ≤ 1000000000 → HasRun (fails_unmarked goal (cost_left h) e (place_here h) h) from target out
   error_turn e now goal few =
       let q = sent h from target out x in
       error_ends h 1 from target out x h.machine.pc q.can (moved h from target out x) q.sent.sender q.sent.older q.sent.is_at.here e (place_here h) now goal few

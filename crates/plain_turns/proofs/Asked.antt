@@ -33,10 +33,9 @@ use Rattle.plain_runs.proofs.Pointed.{next_offset}
 use Rattle.plain_sends.specs.Sends.{selector_of, met_of}
 use Rattle.plain_lookups.specs.Telling.{MayLook, start_of, begins_at, found_by, FoundTells, IsFound}
 use Rattle.plain_lookups.proofs.Telling.{founds_tell}
-use Rattle.plain_stretches.specs.Gate.{is_built, gated_step}
 use Rattle.plain_stretches.specs.Standing.{left_of}
-use Rattle.plain_stretches.specs.Stretches.{Halts, AtGoal, AtSend, AtPrimitive, AtLack, AtHome, AtFull, AtEnd, Sends}
-use Rattle.plain_stretches.proofs.Gated.{gate_is}
+use Rattle.plain_stretches.specs.Stretches.{Halts, AtGoal, AtSend, AtPrimitive, AtHome, AtFull, AtEnd, Sends}
+use Rattle.plain_stretches.proofs.Further.{gate_is}
 use Rattle.plain_turns.specs.Asking.{count, body_here, node_here, place_here, found_for, found_here, behind_poll}
 use Rattle.plain_turns.specs.Resting.{IsAtTrap}
 use Rattle.plain_turns.specs.Turns.{MessagesAsk, FieldsAreRead}
@@ -47,7 +46,6 @@ sends_at : (h : Host) (trap : ℕ) (from : State) (target : ℕ) (out : List ℕ
 sends_at h trap from target out x one (AtGoal e none w) = absurd (omega (arith, e, one))
 sends_at h trap from target out x one (AtSend e q) = q
 sends_at h trap from target out x one (AtPrimitive e q) = absurd (omega (arith, e, one))
-sends_at h trap from target out x one (AtLack e q) = absurd (omega (arith, e, one))
 sends_at h trap from target out x one (AtHome e q) = absurd (omega (arith, e, one))
 sends_at h trap from target out x one (AtFull e q) = absurd (omega (arith, e, one))
 sends_at h trap from target out x one (AtEnd e q) = absurd (omega (arith, e, one))
@@ -175,7 +173,7 @@ module _ (h : Host) (from : State) (target : ℕ) (out : List ℕ) (x : IsAtTrap
       omega (arith, before, moved.counted)
 
   -- the state's step is built
-  pub entering : gated_step x.state ≡ step x.state
+  pub entering : step x.state ≡ step x.state
   entering =
       gate_is x.state sent.sent.sender sent.sent.older x.on.node true sent.sent.is_at.here sent.sent.is_at.node_is (sent_built (here_of x.state sent.sent.sender sent.sent.older) x.on.node sent.selector sent.is)
 

@@ -25,15 +25,14 @@ use Rattle.plain_steps.specs.Steps.{StandsFor}
 use Rattle.plain_steps.proofs.Here.{at_node_of}
 use Rattle.plain_begins.specs.Begins.{AtPoll}
 use Rattle.plain_unwinds.specs.Services.{fails_unmarked}
-use Rattle.plain_stretches.specs.Gate.{gated_step}
 use Rattle.plain_stretches.specs.Standing.{left_of, IsSound}
-use Rattle.plain_stretches.specs.Stretches.{Halts, AtGoal, AtSend, AtPrimitive, AtLack, AtHome, AtFull, AtEnd}
+use Rattle.plain_stretches.specs.Stretches.{Halts, AtGoal, AtSend, AtPrimitive, AtHome, AtFull, AtEnd}
 use Rattle.plain_stretches.proofs.Closing.{ends_settle}
-use Rattle.plain_stretches.proofs.Gated.{answered_rests}
+use Rattle.plain_stretches.proofs.Further.{answered_rests}
 use Rattle.plain_turns.specs.Asking.{place_here, cost_left}
 use Rattle.plain_turns.specs.Resting.{IsAtTrap, HasRun}
 use Rattle.plain_turns.specs.Turns.{GoalsEnd, AnswersEnd, StoresFill}
-use Rattle.plain_turns.proofs.Formed.{gated_forms}
+use Rattle.source_model.proofs.Forming.{steps_form}
 use Rattle.plain_turns.proofs.Onward.{by_count, set_status, last_step, idle, ready_as, paid_once_settled, paid_settled, error_ends}
 use Rattle.plain_turns.proofs.Places.{filled_points, behind_place}
 
@@ -62,7 +61,6 @@ goal_at h trap from target out x two (AtGoal e none w) = (
 )
 goal_at h trap from target out x two (AtSend e q) = absurd (omega (arith, e, two))
 goal_at h trap from target out x two (AtPrimitive e q) = absurd (omega (arith, e, two))
-goal_at h trap from target out x two (AtLack e q) = absurd (omega (arith, e, two))
 goal_at h trap from target out x two (AtHome e q) = absurd (omega (arith, e, two))
 goal_at h trap from target out x two (AtFull e q) = absurd (omega (arith, e, two))
 goal_at h trap from target out x two (AtEnd e q) = absurd (omega (arith, e, two))
@@ -97,7 +95,6 @@ answer_at : (h : Host) (trap : ℕ) (from : State) (target : ℕ) (out : List �
 answer_at h trap from target out x nine (AtGoal e none w) goal few = absurd (omega (arith, e, nine))
 answer_at h trap from target out x nine (AtSend e q) goal few = absurd (omega (arith, e, nine))
 answer_at h trap from target out x nine (AtPrimitive e q) goal few = absurd (omega (arith, e, nine))
-answer_at h trap from target out x nine (AtLack e q) goal few = absurd (omega (arith, e, nine))
 answer_at h trap from target out x nine (AtHome e q) goal few = absurd (omega (arith, e, nine))
 answer_at h trap from target out x nine (AtFull e q) goal few = absurd (omega (arith, e, nine))
 answer_at h trap from target out x nine (AtEnd e q) goal few =
@@ -115,7 +112,7 @@ answer_at h trap from target out x nine (AtEnd e q) goal few =
     let stood = subst Q (sym q.there) q.ends.stands in
     let whole = subst W (sym q.there) q.ends.hosted.within in
     let done = has_answered q.ends.sense (answered h) t (h.machine.regs 8) stood (set_status h.statuses h.current (Answered (h.machine.regs 8)) (Waiting v.sp v.pc v.known) v.running) in
-    let now : gated_step s ≡ silent t = q.built ∙ (λ i. record { state = t; out = q.ends.silent i }) in
+    let now : step s ≡ silent t = q.built ∙ (λ i. record { state = t; out = q.ends.silent i }) in
     let costs : h.cost + h.machine.regs 3 ≡ t.cost = stood.stands.cost in
     let top : x.last.regs 6 ≤ x.start + 4 * (h.cost + x.last.regs 3) = x.paid.top in
     let left : word_at x.last.memory 0x30000004 + h.cost ≡ 4194304 = x.paid.left in
@@ -132,7 +129,7 @@ answer_at h trap from target out x nine (AtEnd e q) goal few =
         sense = q.ends.sense;
         sound = sound;
         parks = idle to (Answered (h.machine.regs 8)) h.statuses refl (λ sp pc n same. cc);
-        formed = subst (λ (r : Reached). IsWellFormed r.state) now (gated_forms s x.formed);
+        formed = subst (λ (r : Reached). IsWellFormed r.state) now (steps_form s x.formed);
         ready = ready_as to.machine to.statuses to.steps to.cost h x.ready;
         start = x.start;
         paid = record { room = settles.room; top = settles.top; left = settles.left };
@@ -148,7 +145,6 @@ full_at : (h : Host) (trap : ℕ) (from : State) (target : ℕ) (out : List ℕ)
 full_at h trap from target out x eight (AtGoal e none w) goal few = absurd (omega (arith, e, eight))
 full_at h trap from target out x eight (AtSend e q) goal few = absurd (omega (arith, e, eight))
 full_at h trap from target out x eight (AtPrimitive e q) goal few = absurd (omega (arith, e, eight))
-full_at h trap from target out x eight (AtLack e q) goal few = absurd (omega (arith, e, eight))
 full_at h trap from target out x eight (AtHome e q) goal few = absurd (omega (arith, e, eight))
 full_at h trap from target out x eight (AtEnd e q) goal few = absurd (omega (arith, e, eight))
 full_at h trap from target out x eight (AtFull e q) goal few =
@@ -164,7 +160,7 @@ full_at h trap from target out x eight (AtFull e q) goal few =
     let node_is : node_at (body_of s f.sender.body) f.sender.next ≡ node = ap (λ (y : Activation). node_at (body_of s y.body) y.next) (sym same) ∙ its.at.node_is in
     let place = behind_place x.sense at s x.on h.machine f.sender f.older f.here (filled_points x.sense at s x.on h.machine q) in
     let is : step s ≡ silent (with_current (Ended_by errors.StoreFull (place_of s f.sender)) s) = step_at s f.sender f.older node f.here node_is ∙ ap (settles (here_of s f.sender f.older)) f.error in
-    let now : gated_step s ≡ silent (with_current (Ended_by errors.StoreFull (place_here h)) s) = q.built ∙ is ∙ ap (λ p. silent (with_current (Ended_by errors.StoreFull p) s)) place in
+    let now : step s ≡ silent (with_current (Ended_by errors.StoreFull (place_here h)) s) = q.built ∙ is ∙ ap (λ p. silent (with_current (Ended_by errors.StoreFull p) s)) place in
     error_ends h trap from target out x f.at q.can mv f.sender f.older f.here errors.StoreFull (place_here h) now goal few
 
 pub stores_fill : StoresFill

@@ -8,14 +8,14 @@ use Rattle.self_terms.specs.declared.values.Value.TheVariants as values
 use Rattle.source_model.specs.State.{Activation, Activity, Running, Answered, Failed, State, Reached, silent, with_current}
 use Rattle.source_model.specs.Canon.{ActivityHas}
 use Rattle.source_model.specs.Soundness.{IsActivity}
-use Rattle.source_model.specs.Step.{step, node_at}
+use Rattle.source_model.specs.Step.{step, node_at, onward, run}
 use Rattle.source_model.specs.Messages.{body_of}
 use Rattle.source_model.specs.Formed.{ThingHolds, ActivityHolds, IsThere, AreInOrder, IsWellFormed}
 use Rattle.source_model.proofs.Keeping.{set_each}
 use Rattle.source_model.proofs.Having.{each}
 use Rattle.source_model.proofs.Forming.{thing_holds, activity_holds, steps_form}
 use Rattle.raw_steps.specs.Sends.{here_of}
-use Rattle.plain_stretches.specs.Gate.{is_built, not_built, gated_at, gated_step, gated_onward, gated_run, printed}
+use Rattle.plain_stretches.specs.Printing.{printed}
 use Rattle.plain_stretches.proofs.Settled.{set_long}
 
 -- an activity that has failed is one
@@ -48,25 +48,10 @@ failed_formed s e p formed =
     still home s t (values.Object o) h = h
     still home s t (values.Block b k) h = h
 
-gated_by : (s : State) (a : Activation) (built : Bool) → IsWellFormed s → IsWellFormed (if built then step s else silent (not_built s a)).state
-gated_by s a true formed = steps_form s formed
-gated_by s a false formed = failed_formed s _ _ formed
-
-gated_from : (s : State) (x : Option Activity) → IsWellFormed s → IsWellFormed (gated_at s x).state
-gated_from s None formed = steps_form s formed
-gated_from s (Some (Running [])) formed = steps_form s formed
-gated_from s (Some (Running (a ∷ older))) formed = gated_by s a (is_built (here_of s a older) (node_at (body_of s a.body) a.next)) formed
-gated_from s (Some (Answered v)) formed = steps_form s formed
-gated_from s (Some (Failed e p)) formed = steps_form s formed
-
-pub gated_forms : (s : State) → IsWellFormed s → IsWellFormed (gated_step s).state
-unfolding gated_step
-gated_forms s formed = gated_from s (slice_get s.activities s.current) formed
-
-runs_form : (n : ℕ) (r : Reached) → IsWellFormed r.state → IsWellFormed (gated_run n r).state
-unfolding gated_run
+runs_form : (n : ℕ) (r : Reached) → IsWellFormed r.state → IsWellFormed (run n r).state
+unfolding run
 runs_form zero r formed = formed
-runs_form (suc n) r formed = runs_form n (gated_onward r) (gated_forms r.state formed)
+runs_form (suc n) r formed = runs_form n (onward r) (steps_form r.state formed)
 
-pub run_forms : (n : ℕ) (s t : State) (out : List ℕ) → gated_run n (silent s) ≡ printed t out → IsWellFormed s → IsWellFormed t
+pub run_forms : (n : ℕ) (s t : State) (out : List ℕ) → run n (silent s) ≡ printed t out → IsWellFormed s → IsWellFormed t
 run_forms n s t out e formed = subst (λ (r : Reached). IsWellFormed r.state) e (runs_form n (silent s) formed)

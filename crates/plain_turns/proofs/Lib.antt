@@ -14,3 +14,4 @@ pub mod Answering
 pub mod Putting
 pub mod Served
 pub mod Returning
+pub mod Handlers

@@ -6,6 +6,7 @@ use Rattle.self_terms.specs.declared.nodes.Place.{Place}
 use Rattle.sparc_store.specs.Words.{Words, word_at, IsWithin}
 use Rattle.sparc_machine.specs.State.{MachineState}
 use Rattle.source_model.specs.State.{Activation, Running, Failed as Ended_by, State, Reached, silent, with_current}
+use Rattle.source_model.specs.Step.{step, run}
 use Rattle.plain_words.specs.Moves.{Moved}
 use Rattle.plain_runs.specs.Host.{Host}
 use Rattle.plain_runs.specs.declared.status.Status.{Status}
@@ -17,10 +18,10 @@ use Rattle.plain_sends.proofs.Settling.{left_is as left_there}
 use Rattle.plain_begins.specs.Begins.{CanPark, Idle}
 use Rattle.plain_unwinds.specs.Services.{fails_unmarked}
 use Rattle.plain_unwinds.proofs.Ended.{activities_end_unmarked}
-use Rattle.plain_stretches.specs.Gate.{gated_step, gated_run, printed}
+use Rattle.plain_stretches.specs.Printing.{printed}
 use Rattle.plain_stretches.specs.Standing.{left_of}
 use Rattle.plain_stretches.specs.Stretches.{StretchOn}
-use Rattle.plain_stretches.proofs.Gated.{then_gated, failed_rests}
+use Rattle.plain_stretches.proofs.Further.{then_run, failed_rests}
 use Rattle.plain_stretches.proofs.Joining.{runs_join}
 use Rattle.plain_stretches.proofs.Settled.{set_there}
 use Rattle.plain_turns.specs.Asking.{count, cost_left}
@@ -28,8 +29,8 @@ use Rattle.plain_turns.specs.Resting.{IsReady, IsAtTrap, HasRun}
 use Rattle.plain_turns.specs.Turns.{StepsOn}
 use Rattle.plain_turns.proofs.Formed.{failed_formed}
 
-pub by_count : (a b : ℕ) (r : Reached) → a ≡ b → gated_run a r ≡ gated_run b r
-by_count a b r e = ap (λ k. gated_run k r) e
+pub by_count : (a b : ℕ) (r : Reached) → a ≡ b → run a r ≡ run b r
+by_count a b r e = ap (λ k. run k r) e
 
 -- nothing more was printed
 pub no_more : (s : State) (out : List ℕ) → printed s (out ++ []) ≡ printed s out
@@ -45,10 +46,10 @@ set_status (x ∷ xs) zero a y e = refl
 set_status (x ∷ xs) (suc c) a y e = set_status xs c a y e
 
 -- Where the step that is next ends the activity, a run of that one more or further ends in the same state.
-pub last_step : (done target steps : ℕ) (from s t : State) (out : List ℕ) → gated_run done (silent from) ≡ printed s out → target - steps ≡ done + suc (target - steps - done - 1) → gated_step s ≡ silent t → ((n : ℕ) → gated_run n (silent t) ≡ silent t) → gated_run (target - steps) (silent from) ≡ printed t out
+pub last_step : (done target steps : ℕ) (from s t : State) (out : List ℕ) → run done (silent from) ≡ printed s out → target - steps ≡ done + suc (target - steps - done - 1) → step s ≡ silent t → ((n : ℕ) → run n (silent t) ≡ silent t) → run (target - steps) (silent from) ≡ printed t out
 last_step done target steps from s t out runs far now still =
     let k = target - steps - done - 1 in
-    by_count (target - steps) (done + suc k) (silent from) far ∙ runs_join done (suc k) from s t out [] runs (then_gated k s t now ∙ still k) ∙ no_more t out
+    by_count (target - steps) (done + suc k) (silent from) far ∙ runs_join done (suc k) from s t out [] runs (then_run k s t now ∙ still k) ∙ no_more t out
 
 -- the current activity is idle once its status says so
 pub idle : (h : Host) (st : Status) (ss : List Status) → h.statuses ≡ slice_set ss h.current st → ((sp pc n : ℕ) → st ≢ Waiting sp pc n) → CanPark h
@@ -134,7 +135,7 @@ module _ (h : Host) (trap : ℕ) (from : State) (target : ℕ) (out : List ℕ) 
 
   -- an error ends the run
   pub error_ends : (p : ℕ) → CanGo at_poll → Moved x.last h.machine p x.last.memory (x.last.regs 2) → (a : Activation) (older : List Activation) → slice_get x.state.activities x.state.current ≡ Some (Running (a ∷ older))
-      → (e : ErrorName) (place : Place) → gated_step x.state ≡ silent (with_current (Ended_by e place) x.state) → (goal : ℕ) → goal ≤ 1000000000 → HasRun (fails_unmarked goal (cost_left h) e place h) from target out
+      → (e : ErrorName) (place : Place) → step x.state ≡ silent (with_current (Ended_by e place) x.state) → (goal : ℕ) → goal ≤ 1000000000 → HasRun (fails_unmarked goal (cost_left h) e place h) from target out
   error_ends p can mv a older running e place now goal few =
       let s = x.state in
       let t = with_current (Ended_by e place) s in

@@ -47,10 +47,9 @@ use Rattle.plain_prims.proofs.Operands.{core_known, operands_stand}
 use Rattle.plain_prims.proofs.Performing.{done_by_effect, answers_perform}
 use Rattle.plain_prims.proofs.Rows.{effects_tell, takes_so_many}
 use Rattle.plain_unwinds.specs.Services.{fails_unmarked}
-use Rattle.plain_stretches.specs.Gate.{gated_step}
 use Rattle.plain_stretches.specs.Standing.{IsOn}
-use Rattle.plain_stretches.specs.Stretches.{Halts, AtGoal, AtSend, AtPrimitive, AtLack, AtHome, AtFull, AtEnd, Performs, IsBare, Lacks}
-use Rattle.plain_stretches.proofs.Gated.{gated_keeps}
+use Rattle.plain_stretches.specs.Stretches.{Halts, AtGoal, AtSend, AtPrimitive, AtHome, AtFull, AtEnd, Performs, IsBare, Lacks}
+use Rattle.plain_stretches.proofs.Further.{run_keeps}
 use Rattle.plain_stretches.proofs.Stretches.{prints_stretch}
 use Rattle.plain_turns.specs.Asking.{node_here, place_here, cost_left}
 use Rattle.plain_turns.specs.Primitives.{IsPrimitive, PrimitivesAsk, LacksEnd, UndefinedEnd, IsOf, KnowsWords, Costs, Says, MayApply, PrimitivesMayApply, WasApplied, FullsEnd, FailuresEnd, PrimitiveTurns, AnswersTurn}
@@ -68,7 +67,6 @@ at_service : (z : Sense) (h : Host) (s : State) (on : IsOn z h s) (trap : ℕ) (
 at_service z h s on trap to (AtGoal e none w) three = absurd (omega (arith, e, three))
 at_service z h s on trap to (AtSend e q) three = absurd (omega (arith, e, three))
 at_service z h s on trap to (AtPrimitive e q) three = Bare q
-at_service z h s on trap to (AtLack e q) three = Lacking q
 at_service z h s on trap to (AtHome e q) three = absurd (omega (arith, e, three))
 at_service z h s on trap to (AtFull e q) three = absurd (omega (arith, e, three))
 at_service z h s on trap to (AtEnd e q) three = absurd (omega (arith, e, three))
@@ -135,10 +133,10 @@ has_taken maps old new heap after cells places things made receiver word (Failur
 module _ (h : Host) (from : State) (target : ℕ) (out : List ℕ) (x : IsAtTrap h 3 from target out) where
   -- the names and the words of the language stay through a run
   names_same : from.names ≡ x.state.names
-  names_same = sym (gated_keeps x.done (silent from)).0 ∙ ap (λ r. r.state.names) x.runs
+  names_same = sym (run_keeps x.done (silent from)).0 ∙ ap (λ r. r.state.names) x.runs
 
   core_same : from.core ≡ x.state.core
-  core_same = sym (gated_keeps x.done (silent from)).1 ∙ ap (λ r. r.state.core) x.runs
+  core_same = sym (run_keeps x.done (silent from)).1 ∙ ap (λ r. r.state.core) x.runs
 
   module _ (q : Performs x.sense (with_machine h x.last) x.state x.on h.machine) where
     abbrev message : Message
@@ -178,12 +176,12 @@ module _ (h : Host) (from : State) (target : ℕ) (out : List ℕ) (x : IsAtTrap
     }
 
     -- an error that the gated step is
-    ends_by : (e : ErrorName) → gated_step x.state ≡ silent (with_current (Ended_by e (place_of x.state q.performed.sender)) x.state) → (goal : ℕ) → goal ≤ 1000000000 → HasRun (fails_unmarked goal (cost_left h) e (place_here h) h) from target out
+    ends_by : (e : ErrorName) → step x.state ≡ silent (with_current (Ended_by e (place_of x.state q.performed.sender)) x.state) → (goal : ℕ) → goal ≤ 1000000000 → HasRun (fails_unmarked goal (cost_left h) e (place_here h) h) from target out
     ends_by e now goal few =
         error_ends h 3 from target out x q.performed.at q.can moved q.performed.sender q.performed.older q.performed.is_at.here e (place_here h) (now ∙ ap (λ k. silent (with_current (Ended_by e k) x.state)) place_is) goal few
 
     -- an error that the node is
-    errs : (e : ErrorName) → gated_step x.state ≡ step x.state → done (here_of x.state q.performed.sender q.performed.older) node ≡ Err e → (goal : ℕ) → goal ≤ 1000000000 → HasRun (fails_unmarked goal (cost_left h) e (place_here h) h) from target out
+    errs : (e : ErrorName) → step x.state ≡ step x.state → done (here_of x.state q.performed.sender q.performed.older) node ≡ Err e → (goal : ℕ) → goal ≤ 1000000000 → HasRun (fails_unmarked goal (cost_left h) e (place_here h) h) from target out
     errs e built is goal few =
         let here = here_of x.state q.performed.sender q.performed.older in
         ends_by e (built ∙ step_at x.state q.performed.sender q.performed.older node q.performed.is_at.here q.performed.is_at.node_is ∙ ap (settled here) is) goal few
@@ -241,7 +239,7 @@ module _ (h : Host) (from : State) (target : ℕ) (out : List ℕ) (x : IsAtTrap
         };
       }
 
-      full_ends : gated_step x.state ≡ step x.state → (words : ℕ) → Costs h p words → 4194304 < h.cost + h.machine.regs 3 + words → (goal : ℕ) → goal ≤ 1000000000 → HasRun (fails_unmarked goal (cost_left h) errors.StoreFull (place_here h) h) from target out
+      full_ends : step x.state ≡ step x.state → (words : ℕ) → Costs h p words → 4194304 < h.cost + h.machine.regs 3 + words → (goal : ℕ) → goal ≤ 1000000000 → HasRun (fails_unmarked goal (cost_left h) errors.StoreFull (place_here h) h) from target out
       full_ends built words is much goal few =
           let s = x.state in
           let e = apply s p message.receiver message.arguments in
@@ -251,7 +249,7 @@ module _ (h : Host) (from : State) (target : ℕ) (out : List ℕ) (x : IsAtTrap
           x.on.sound.stands.stands.within (omega (arith, much, cost_is, costs words is)))
           goal few
 
-      failure_ends : gated_step x.state ≡ step x.state → (core : CoreWords) → KnowsWords h from.core core → (memory : Words) (heap : Heap) (e : ErrorName) → WasApplied h p args core memory heap (answers.Fails e) → (goal : ℕ) → goal ≤ 1000000000
+      failure_ends : step x.state ≡ step x.state → (core : CoreWords) → KnowsWords h from.core core → (memory : Words) (heap : Heap) (e : ErrorName) → WasApplied h p args core memory heap (answers.Fails e) → (goal : ℕ) → goal ≤ 1000000000
           → (memory ≡ h.machine.memory) × HasRun (fails_unmarked goal (cost_left h) e (place_here h) h) from target out
       failure_ends built core k memory heap e was goal few =
           let s = x.state in
@@ -265,7 +263,7 @@ module _ (h : Host) (from : State) (target : ℕ) (out : List ℕ) (x : IsAtTrap
                 goal few,
           )
 
-      answer_turns : gated_step x.state ≡ step x.state → (core : CoreWords) → KnowsWords h from.core core → (words : ℕ) → Costs h p words → h.cost + h.machine.regs 3 + words ≤ 4194304
+      answer_turns : step x.state ≡ step x.state → (core : CoreWords) → KnowsWords h from.core core → (words : ℕ) → Costs h p words → h.cost + h.machine.regs 3 + words ≤ 4194304
           → (memory : Words) (heap : Heap) (word : ℕ) → WasApplied h p args core memory heap (answers.Done word) → (line : List ℕ) → Says h p line → IsWithin memory → PrimitiveTurns h from target out memory heap words word line
       answer_turns built core k words is fits memory heap word was line tells within =
           let s = x.state in

@@ -6,7 +6,7 @@ use Rattle.sparc_store.specs.Windows.{saved_at}
 use Rattle.sparc_machine.specs.State.{MachineState}
 use Rattle.source_model.specs.Formed.{IsWellFormed}
 use Rattle.source_model.specs.State.{Activity, Running, Answered as Ended_with, Failed as Ended_by, State, Reached, silent}
-use Rattle.source_model.specs.Step.{step}
+use Rattle.source_model.specs.Step.{step, run}
 use Rattle.frame_walk.specs.Raw.{Thread, Answered as Answer}
 use Rattle.raw_steps.specs.Stands.{Sense, IsActivity, makes_blocks}
 use Rattle.plain_words.specs.Moves.{Moved}
@@ -21,16 +21,16 @@ use Rattle.plain_begins.specs.Begins.{Idle}
 use Rattle.plain_unwinds.specs.Returning.{HasAnswered, Unwinds, GoesOn, Answers, Leaves}
 use Rattle.plain_unwinds.specs.Services.{written, unmarked, ended_older, home_at, returns_to, answers_from_home, unwinds}
 use Rattle.plain_unwinds.proofs.Returning.{home_returns, homes_leave}
-use Rattle.plain_stretches.specs.Gate.{printed, gated_step, gated_run}
+use Rattle.plain_stretches.specs.Printing.{printed}
 use Rattle.plain_stretches.specs.Standing.{left_of}
-use Rattle.plain_stretches.specs.Stretches.{Halts, AtGoal, AtSend, AtPrimitive, AtLack, AtHome, AtFull, AtEnd, GoesHome}
-use Rattle.plain_stretches.proofs.Gated.{then_gated, answered_rests}
+use Rattle.plain_stretches.specs.Stretches.{Halts, AtGoal, AtSend, AtPrimitive, AtHome, AtFull, AtEnd, GoesHome}
+use Rattle.plain_stretches.proofs.Further.{then_run, answered_rests}
 use Rattle.plain_stretches.proofs.Joining.{runs_join}
 use Rattle.plain_stretches.proofs.Stretches.{steps_stretch}
 use Rattle.plain_turns.specs.Asking.{count, cost_left}
 use Rattle.plain_turns.specs.Resting.{IsReady, IsAtTrap, HasRun}
 use Rattle.plain_turns.specs.Turns.{StepsOn, ReturnsTurn}
-use Rattle.plain_turns.proofs.Formed.{gated_forms}
+use Rattle.source_model.proofs.Forming.{steps_form}
 use Rattle.plain_turns.proofs.Onward.{counted_is, rest_is, cost_fits, goes_on}
 
 -- a return from a home method has led there
@@ -38,7 +38,6 @@ goes_home : (h : Host) (trap : ℕ) (from : State) (target : ℕ) (out : List �
 goes_home h trap from target out x four (AtGoal e none w) = absurd (omega (arith, e, four))
 goes_home h trap from target out x four (AtSend e q) = absurd (omega (arith, e, four))
 goes_home h trap from target out x four (AtPrimitive e q) = absurd (omega (arith, e, four))
-goes_home h trap from target out x four (AtLack e q) = absurd (omega (arith, e, four))
 goes_home h trap from target out x four (AtHome e q) = q
 goes_home h trap from target out x four (AtFull e q) = absurd (omega (arith, e, four))
 goes_home h trap from target out x four (AtEnd e q) = absurd (omega (arith, e, four))
@@ -138,18 +137,18 @@ module _ (h : Host) (from : State) (target : ℕ) (out : List ℕ) (x : IsAtTrap
       let s = x.state in
       let t = (step s).state in
       let v = has_answered a.sense to t a.word a.stands a.answered in
-      let now : gated_step s ≡ silent t = home.built ∙ (λ i. record { state = t; out = a.silent i }) in
+      let now : step s ≡ silent t = home.built ∙ (λ i. record { state = t; out = a.silent i }) in
       let k = target - from.steps - x.done - 1 in
       let far : target - from.steps ≡ x.done + suc k = omega (arith, left_is, x.left_is, x.counted) in
-      let still : gated_run (suc k) (silent s) ≡ printed t [] = then_gated k s t now ∙ answered_rests k t v.0 v.1 in
+      let still : run (suc k) (silent s) ≡ printed t [] = then_run k s t now ∙ answered_rests k t v.0 v.1 in
       record {
         state = t;
-        runs = ap (λ j. gated_run j (silent from)) far ∙ runs_join x.done (suc k) from s t out [] x.runs still ∙ ap (printed t) (append-nil out);
+        runs = ap (λ j. run j (silent from)) far ∙ runs_join x.done (suc k) from s t out [] x.runs still ∙ ap (printed t) (append-nil out);
         rests = record {
           sense = a.sense;
           sound = record { hosted = a.hosted; runs = l.runs; current = omega (arith, l.current, x.on.sound.current); stands = a.stands };
           parks = Idle (λ sp pc known e. (let bad : Some (Answered a.word) ≡ Some (Waiting sp pc known) = sym a.answered ∙ e in absurd (cc)));
-          formed = subst (λ (r : Reached). IsWellFormed r.state) now (gated_forms s x.formed);
+          formed = subst (λ (r : Reached). IsWellFormed r.state) now (steps_form s x.formed);
           ready = ready;
           start = x.start;
           paid = paid_there to l;

@@ -13,10 +13,10 @@ use Rattle.plain_steps.specs.Paying.{IsPaid}
 use Rattle.plain_begins.specs.Begins.{CanPark, AtPoll, Idle}
 use Rattle.plain_unwinds.specs.Services.{CanUnwind}
 use Rattle.plain_unwinds.proofs.Anywhere.{may_unwind}
-use Rattle.plain_stretches.specs.Gate.{printed}
+use Rattle.plain_stretches.specs.Printing.{printed}
 use Rattle.plain_stretches.specs.Standing.{IsOn}
-use Rattle.plain_stretches.specs.Stretches.{Ends, Halts, AtGoal, AtSend, AtPrimitive, AtLack, AtHome, AtFull, AtEnd}
-use Rattle.plain_stretches.proofs.Gated.{none_gated}
+use Rattle.plain_stretches.specs.Stretches.{Ends, Halts, AtGoal, AtSend, AtPrimitive, AtHome, AtFull, AtEnd}
+use Rattle.plain_stretches.proofs.Further.{none_run}
 use Rattle.plain_stretches.proofs.Joining.{runs_join}
 use Rattle.plain_stretches.proofs.Stretches.{polls_stretch, stretches_run}
 use Rattle.plain_turns.specs.Asking.{cost_left, goes_back}
@@ -51,7 +51,7 @@ runs_begin h s sp pc known r running goal few =
       state = s;
       done = 0;
       before = [];
-      runs = none_gated s;
+      runs = none_run s;
       counted = omega arith;
       all = r.sound.runs;
       current = r.sound.current;
@@ -77,7 +77,6 @@ has_come : (z : Sense) (h : Host) (s : State) (on : IsOn z h s) (trap : ℕ) (to
 has_come z h s on trap to (AtGoal e none w) = Stays (λ nine. absurd (omega (arith, e, nine))) (h.machine.pc + 20) w.moved
 has_come z h s on trap to (AtSend e q) = Stays (λ nine. absurd (omega (arith, e, nine))) q.sent.at (moved_to h.machine to q.sent.asks.to q.sent.at q.there q.sent.asks.moved)
 has_come z h s on trap to (AtPrimitive e q) = let p = q.performs in Stays (λ nine. absurd (omega (arith, e, nine))) p.performed.at (moved_to h.machine to p.performed.asks.to p.performed.at p.there p.performed.asks.moved)
-has_come z h s on trap to (AtLack e q) = let p = q.performs in Stays (λ nine. absurd (omega (arith, e, nine))) p.performed.at (moved_to h.machine to p.performed.asks.to p.performed.at p.there p.performed.asks.moved)
 has_come z h s on trap to (AtHome e q) = Stays (λ nine. absurd (omega (arith, e, nine))) q.asks.at (moved_to h.machine to q.asks.asks.to q.asks.at q.there q.asks.asks.moved)
 has_come z h s on trap to (AtFull e q) = Stays (λ nine. absurd (omega (arith, e, nine))) q.full.at (moved_to h.machine to q.full.full.to q.full.at q.there q.full.full.moved)
 has_come z h s on trap to (AtEnd e q) = Leaves e q
@@ -134,7 +133,6 @@ service_at : (z : Sense) (h : Host) (s : State) (on : IsOn z h s) (trap : ℕ) (
 service_at z h s on trap to (AtSend e q) = inl e
 service_at z h s on trap to (AtGoal e none w) = inr (inl e)
 service_at z h s on trap to (AtPrimitive e q) = inr (inr (inl e))
-service_at z h s on trap to (AtLack e q) = inr (inr (inl e))
 service_at z h s on trap to (AtHome e q) = inr (inr (inr (inl e)))
 service_at z h s on trap to (AtFull e q) = inr (inr (inr (inr (inl e))))
 service_at z h s on trap to (AtEnd e q) = inr (inr (inr (inr (inr e))))

@@ -5,3 +5,4 @@ pub mod Asking
 pub mod Events
 pub mod Turns
 pub mod Primitives
+pub mod Handlers

@@ -45,21 +45,16 @@ pub record IsPrimitive (h : Host) (target : ℕ) : Type 0 where
 abbrev pub PrimitivesAsk : Type 0
 PrimitivesAsk = (h : Host) (from : State) (target : ℕ) (out : List ℕ) → IsAtTrap h 3 from target out → IsPrimitive h target
 
--- one that has a handler isn't built
-abbrev pub LacksEnd : Type 0
-LacksEnd = (h : Host) (from : State) (target : ℕ) (out : List ℕ) → IsAtTrap h 3 from target out → (name : Name) (args : ℕ) (implied : Bool) → node_here h ≡ Some (nodes.Prim name args implied true) → (goal : ℕ) → goal ≤ 1000000000
-    → HasRun (fails_unmarked goal (cost_left h) errors.NotBuilt (place_here h) h) from target out
-
--- one whose name and number of arguments aren't a primitive's fails
+-- one whose name and number of arguments aren't a primitive's fails, where it has no handler
 abbrev pub UndefinedEnd : Type 0
 UndefinedEnd = (h : Host) (from : State) (target : ℕ) (out : List ℕ) → IsAtTrap h 3 from target out → (name : Name) (args : ℕ) (implied : Bool) → node_here h ≡ Some (nodes.Prim name args implied false) → primitive_of (text_named from.names name.0) args ≡ None → (goal : ℕ) → goal ≤ 1000000000
     → HasRun (fails_unmarked goal (cost_left h) errors.PrimitiveNotDefined (place_here h) h) from target out
 
--- The node is that of this primitive, without a handler, in a session whose state this is.
-pub record IsOf (h : Host) (from : State) (p : Primitive) (args : ℕ) : Type 0 where
+-- The node is that of this primitive, with a handler or without, in a session whose state this is.
+pub record IsOf (h : Host) (from : State) (p : Primitive) (args : ℕ) (handler : Bool) : Type 0 where
   pub name : Name
   pub implied : Bool
-  pub node_is : node_here h ≡ Some (nodes.Prim name args implied false)
+  pub node_is : node_here h ≡ Some (nodes.Prim name args implied handler)
   pub is : primitive_of (text_named from.names name.0) args ≡ Some p
 
 -- the words of the objects that the language knows, by the references of units
@@ -82,7 +77,7 @@ pub record MayApply (h : Host) (p : Primitive) (args : ℕ) (core : CoreWords) :
   pub apply : (words : ℕ) → Costs h p words → h.cost + h.machine.regs 3 + words ≤ 4194304 → CanApply h.maps core h.machine.memory (heap_of h) p (h.machine.regs 8) (registers_from h.machine.regs 9 args)
 
 abbrev pub PrimitivesMayApply : Type 0
-PrimitivesMayApply = (h : Host) (from : State) (target : ℕ) (out : List ℕ) → IsAtTrap h 3 from target out → (p : Primitive) (args : ℕ) → IsOf h from p args → (core : CoreWords) → KnowsWords h from.core core → MayApply h p args core
+PrimitivesMayApply = (h : Host) (from : State) (target : ℕ) (out : List ℕ) → IsAtTrap h 3 from target out → (p : Primitive) (args : ℕ) (handler : Bool) → IsOf h from p args handler → (core : CoreWords) → KnowsWords h from.core core → MayApply h p args core
 
 -- It was applied, and has left this memory and this heap: what it answers is right whatever state these words stand for.
 pub record WasApplied (h : Host) (p : Primitive) (args : ℕ) (core : CoreWords) (memory : Words) (heap : Heap) (answer : PrimAnswer) : Type 0 where
@@ -94,13 +89,17 @@ pub record WasApplied (h : Host) (p : Primitive) (args : ℕ) (core : CoreWords)
 
 -- More words than are left of the plain cost: the store is full.
 abbrev pub FullsEnd : Type 0
-FullsEnd = (h : Host) (from : State) (target : ℕ) (out : List ℕ) → IsAtTrap h 3 from target out → (p : Primitive) (args : ℕ) → IsOf h from p args → (words : ℕ) → Costs h p words → 4194304 < h.cost + h.machine.regs 3 + words → (goal : ℕ) → goal ≤ 1000000000
+FullsEnd = (h : Host) (from : State) (target : ℕ) (out : List ℕ) → IsAtTrap h 3 from target out → (p : Primitive) (args : ℕ) (handler : Bool) → IsOf h from p args handler → (words : ℕ) → Costs h p words → 4194304 < h.cost + h.machine.regs 3 + words → (goal : ℕ) → goal ≤ 1000000000
     → HasRun (fails_unmarked goal (cost_left h) errors.StoreFull (place_here h) h) from target out
 
--- It has failed, and left all as it was.
+-- It has failed, and left all as it was; with no handler that ends the run.
+abbrev pub FailuresKeep : Type 0
+FailuresKeep = (h : Host) (from : State) (target : ℕ) (out : List ℕ) → IsAtTrap h 3 from target out → (p : Primitive) (args : ℕ) (handler : Bool) → IsOf h from p args handler → (core : CoreWords) → KnowsWords h from.core core
+    → (memory : Words) (heap : Heap) (e : ErrorName) → WasApplied h p args core memory heap (answers.Fails e) → memory ≡ h.machine.memory
+
 abbrev pub FailuresEnd : Type 0
-FailuresEnd = (h : Host) (from : State) (target : ℕ) (out : List ℕ) → IsAtTrap h 3 from target out → (p : Primitive) (args : ℕ) → IsOf h from p args → (core : CoreWords) → KnowsWords h from.core core → (memory : Words) (heap : Heap) (e : ErrorName) → WasApplied h p args core memory heap (answers.Fails e) → (goal : ℕ) → goal ≤ 1000000000
-    → (memory ≡ h.machine.memory) × HasRun (fails_unmarked goal (cost_left h) e (place_here h) h) from target out
+FailuresEnd = (h : Host) (from : State) (target : ℕ) (out : List ℕ) → IsAtTrap h 3 from target out → (p : Primitive) (args : ℕ) → IsOf h from p args false → (core : CoreWords) → KnowsWords h from.core core
+    → (memory : Words) (heap : Heap) (e : ErrorName) → WasApplied h p args core memory heap (answers.Fails e) → (goal : ℕ) → goal ≤ 1000000000 → HasRun (fails_unmarked goal (cost_left h) e (place_here h) h) from target out
 
 -- It has answered a word; the words behind the trap do the step, which prints its line.
 pub record PrimitiveTurns (h : Host) (from : State) (target : ℕ) (out : List ℕ) (memory : Words) (heap : Heap) (words word : ℕ) (line : List ℕ) : Type 0 where
@@ -108,5 +107,5 @@ pub record PrimitiveTurns (h : Host) (from : State) (target : ℕ) (out : List �
   pub objects : heap.next ≤ h.next + 1
 
 abbrev pub AnswersTurn : Type 0
-AnswersTurn = (h : Host) (from : State) (target : ℕ) (out : List ℕ) → IsAtTrap h 3 from target out → (p : Primitive) (args : ℕ) → IsOf h from p args → (core : CoreWords) → KnowsWords h from.core core → (words : ℕ) → Costs h p words → h.cost + h.machine.regs 3 + words ≤ 4194304
+AnswersTurn = (h : Host) (from : State) (target : ℕ) (out : List ℕ) → IsAtTrap h 3 from target out → (p : Primitive) (args : ℕ) (handler : Bool) → IsOf h from p args handler → (core : CoreWords) → KnowsWords h from.core core → (words : ℕ) → Costs h p words → h.cost + h.machine.regs 3 + words ≤ 4194304
     → (memory : Words) (heap : Heap) (word : ℕ) → WasApplied h p args core memory heap (answers.Done word) → (line : List ℕ) → Says h p line → PrimitiveTurns h from target out memory heap words word line

@@ -3,13 +3,14 @@ use Rattle.std.specs.Prelude.{◌≡◌, ℕ, ◌+◌, ◌-◌, ◌≤◌, ◌<�
 use Rattle.sparc_machine.specs.State.{MachineState}
 use Rattle.source_model.specs.Formed.{IsWellFormed}
 use Rattle.source_model.specs.State.{State, silent}
+use Rattle.source_model.specs.Step.{run}
 use Rattle.raw_steps.specs.Stands.{Sense}
 use Rattle.plain_words.specs.Going.{IsTrap}
 use Rattle.plain_runs.specs.Host.{Host}
 use Rattle.plain_runs.specs.Course.{with_machine, AllRun}
 use Rattle.plain_steps.specs.Paying.{IsPaid, HasMaps}
 use Rattle.plain_begins.specs.Begins.{CanPark}
-use Rattle.plain_stretches.specs.Gate.{gated_run, printed}
+use Rattle.plain_stretches.specs.Printing.{printed}
 use Rattle.plain_stretches.specs.Standing.{IsSound, IsOn, left_of}
 use Rattle.plain_stretches.specs.Stretches.{AreFit, Stretch, Halts}
 use Rattle.plain_turns.specs.Rooms.{HasRoom}
@@ -38,7 +39,7 @@ pub record IsGoing (h : Host) (from : State) (target : ℕ) (out : List ℕ) : T
   pub state : State
   pub done : ℕ
   pub before : List ℕ
-  pub runs : gated_run done (silent from) ≡ printed state before
+  pub runs : run done (silent from) ≡ printed state before
   pub counted : state.steps ≡ from.steps + done
   pub all : AllRun h
   pub current : h.current < 4
@@ -56,7 +57,7 @@ pub record IsAtTrap (h : Host) (trap : ℕ) (from : State) (target : ℕ) (out :
   pub sense : Sense
   pub state : State
   pub done : ℕ
-  pub runs : gated_run done (silent from) ≡ printed state out
+  pub runs : run done (silent from) ≡ printed state out
   pub counted : state.steps ≡ from.steps + done
   pub last : MachineState
   pub on : IsOn sense (with_machine h last) state
@@ -72,5 +73,5 @@ pub record IsAtTrap (h : Host) (trap : ℕ) (from : State) (target : ℕ) (out :
 -- The run is done, or the activity has ended before; this was printed.
 pub record HasRun (h : Host) (from : State) (target : ℕ) (out : List ℕ) : Type 0 where
   pub state : State
-  pub runs : gated_run (target - from.steps) (silent from) ≡ printed state out
+  pub runs : run (target - from.steps) (silent from) ≡ printed state out
   pub rests : Rests h state

@@ -1,5 +1,6 @@
 // Laws of turns.
-ghost use Rattle.plain_turns.specs.Primitives.{AnswersTurn, FailuresEnd, FullsEnd, LacksEnd, PrimitivesAsk, PrimitivesMayApply, UndefinedEnd};
+ghost use Rattle.plain_turns.specs.Handlers.{FailuresAsk, HandlersAnswer, HandlersAreRead, HandlersAssignNothing, HandlersMeetMethods, HandlersMiss};
+ghost use Rattle.plain_turns.specs.Primitives.{AnswersTurn, FailuresEnd, FailuresKeep, FullsEnd, PrimitivesAsk, PrimitivesMayApply, UndefinedEnd};
 ghost use Rattle.plain_turns.specs.Turns.{AnswersEnd, AssignmentsTurn, CallsTurn, DataTurns, FieldsAreRead, GoalsEnd, MarksMayBeTested, MessagesAsk, MethodsAreThere, MissesEnd, ObjectsCount, RefusalsEnd, ReturnsTurn, RunsBegin, RunsCome, StoresFill, TrapsTell, UnitsFit, UnitsTurn};
 
 /// A law: a run begins at the poll at which the current activity rests.
@@ -46,13 +47,25 @@ pub fn methods_turn()
     ensures refused { RefusalsEnd }
 {}
 
-/// A law: a primitive that was applied leads on where it has answered, and ends the run where it has failed, isn't defined, can't be paid or isn't built.
+/// A law: a primitive that was applied leads on where it has answered, and ends the run where it has failed or isn't defined and has no handler, and
+/// where it can't be paid.
 pub fn primitives_turn()
     ensures asked { PrimitivesAsk }
-    ensures lacks { LacksEnd }
     ensures undefined { UndefinedEnd }
     ensures may { PrimitivesMayApply }
     ensures full { FullsEnd }
+    ensures kept { FailuresKeep }
     ensures failure { FailuresEnd }
     ensures answer { AnswersTurn }
+{}
+
+/// A law: the message of a failed primitive to its handler leads on where data or a method with a unit answers it, and from the node's beginning where a
+/// unit is put; it ends the run where nothing does, and where the method is refused. No assignment slot answers it.
+pub fn handlers_turn()
+    ensures asked { FailuresAsk }
+    ensures fields { HandlersAreRead }
+    ensures none { HandlersAssignNothing }
+    ensures data { HandlersAnswer }
+    ensures missing { HandlersMiss }
+    ensures method { HandlersMeetMethods }
 {}

@@ -1,9 +1,9 @@
-use Rattle.plain_session.specs.Commands.{gated_continue}
+use Rattle.plain_session.specs.Commands.{goes_to}
 use Rattle.plain_session.proofs.Obeying.{nobody_continues, ended_continues, rests_inside, says_line, stays_led, stays_few}
 use Rattle.plain_session.proofs.sessions.Session.continue_to.Goals as goal
 
 pub returns-in-Nobody-clause-obeys : goal.returns-in-Nobody-clause-obeys
-returns-in-Nobody-clause-obeys g c = says_line c.args.self.now c.args.self.now (gated_continue c.args.steps) (g.K.Sink.taken c.args.out.now) _ (nobody_continues c.args.self.now c.args.steps (λ s r. c.in-Nobody.ensures.source s (rests_inside c.args.self.now c.self.inside.hosting c.self.inside.walk c.self.inside.language c.self.inside.instructions c.self.inside.services c.self.view_is s r)))
+returns-in-Nobody-clause-obeys g c = says_line c.args.self.now c.args.self.now (goes_to c.args.steps) (g.K.Sink.taken c.args.out.now) _ (nobody_continues c.args.self.now c.args.steps (λ s r. c.in-Nobody.ensures.source s (rests_inside c.args.self.now c.self.inside.hosting c.self.inside.walk c.self.inside.language c.self.inside.instructions c.self.inside.services c.self.view_is s r)))
 
 pub returns-in-Nobody-clause-led : goal.returns-in-Nobody-clause-led
 returns-in-Nobody-clause-led g c = stays_led c.args.self.now
@@ -12,7 +12,7 @@ pub returns-in-Nobody-clause-rose : goal.returns-in-Nobody-clause-rose
 returns-in-Nobody-clause-rose g c = stays_few c.args.self.now
 
 pub returns-in-Ended-clause-obeys : goal.returns-in-Ended-clause-obeys
-returns-in-Ended-clause-obeys g c = says_line c.args.self.now c.args.self.now (gated_continue c.args.steps) (g.K.Sink.taken c.args.out.now) _ (ended_continues c.args.self.now c.args.steps (λ s r. c.in-Ended.ensures.source s (rests_inside c.args.self.now c.self.inside.hosting c.self.inside.walk c.self.inside.language c.self.inside.instructions c.self.inside.services c.self.view_is s r)))
+returns-in-Ended-clause-obeys g c = says_line c.args.self.now c.args.self.now (goes_to c.args.steps) (g.K.Sink.taken c.args.out.now) _ (ended_continues c.args.self.now c.args.steps (λ s r. c.in-Ended.ensures.source s (rests_inside c.args.self.now c.self.inside.hosting c.self.inside.walk c.self.inside.language c.self.inside.instructions c.self.inside.services c.self.view_is s r)))
 
 pub returns-in-Ended-clause-led : goal.returns-in-Ended-clause-led
 returns-in-Ended-clause-led g c = stays_led c.args.self.now

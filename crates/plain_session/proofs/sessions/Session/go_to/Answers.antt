@@ -1,14 +1,14 @@
 use Rattle.std.proofs.Common.{◌-◌, ◌∙◌, ap, arith}
 use Rattle.session_text.specs.LineTexts.{line_text}
 use Rattle.plain_turns.specs.Asking.{count}
-use Rattle.plain_session.specs.Commands.{gated_continue}
+use Rattle.plain_session.specs.Commands.{goes_to}
 use Rattle.plain_session.specs.Sessions.{Session, host_of}
 use Rattle.plain_session.proofs.Obeying.{past_obeys, continue_obeyed, continue_broken, says_line, ok_then, err_then, stays_led, stays_few}
 use Rattle.plain_session.proofs.sessions.Session.go_to.Goals as goal
 
 pub returns-then-done-steps-clause-obeys : goal.returns-then-done-steps-clause-obeys
 returns-then-done-steps-clause-obeys g c =
-    says_line c.args.self.now c.args.self.now (gated_continue c.args.steps) (g.K.Sink.taken c.args.out.now) _ (past_obeys c.args.self.now c.args.steps c.steps-done.result (c.steps-done.ensures ∙ ap (λ (z : Session). count (host_of z)) c.self.view_is) (let past = c.if-done-steps.true in omega (arith, past)) c.requires.stands)
+    says_line c.args.self.now c.args.self.now (goes_to c.args.steps) (g.K.Sink.taken c.args.out.now) _ (past_obeys c.args.self.now c.args.steps c.steps-done.result (c.steps-done.ensures ∙ ap (λ (z : Session). count (host_of z)) c.self.view_is) (let past = c.if-done-steps.true in omega (arith, past)) c.requires.stands)
 
 pub returns-then-done-steps-clause-led : goal.returns-then-done-steps-clause-led
 returns-then-done-steps-clause-led g c = stays_led c.args.self.now
