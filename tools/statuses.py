@@ -58,7 +58,7 @@ CASES = [
     ("check empty.self", "", False, "world refused MissingCore nil\n", 2),
     ("check long.self", "", False, "world refused TooLong\n", 2),
     ("run add.self", "spawn main\njump 3\n", False, "script refused line 2\n", 3),
-    ("run add.self", SCRIPT + "stack\n", False, "not built\n", 3),
+    ("run add.self", SCRIPT + "units\n", False, "not built\n", 3),
     ("run add.self", " " * 1048577, False, "script refused TooLong\n", 3),
     ("run missing.self", SCRIPT, False, "", 4),
     ("check folder", "", False, "", 4),

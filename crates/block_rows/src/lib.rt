@@ -6,6 +6,10 @@
 #[cfg(test)]
 mod blocks;
 #[cfg(test)]
+mod commands;
+#[cfg(test)]
+mod handlers;
+#[cfg(test)]
 mod harness;
 #[cfg(test)]
 mod primitives;

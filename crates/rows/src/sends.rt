@@ -105,7 +105,7 @@ a: x = ( | t <- 2. u = 7 | t: t + u. x - t ).~main = ( a: 10 ).~;spawn main~run 
 main = ( 10 - (3 - 2) ).~;spawn main~run 10000000~;activity 1~done 9 at 12~;0
 o = ( | = n = ( n ) | ).~main = ( o = 6 ).~;spawn main~run 10000000~;activity 1~done 6 at 6~;0";
 
-// Errors of messages and primitives, primitives that answer, and handlers that are not built.
+// Errors of messages and primitives, primitives that answer, and handlers that answer nothing.
 const ERRORS: &str = "\
 main = ( 3 zork ).~;spawn main~run 1~run 1~run 1~;activity 1~stop at 1 line 10:12~error notUnderstood at 1 line 10:12~refused ended~;0
 main = ( 3 + zork ).~;spawn main~run 10000000~;activity 1~error notUnderstood at 1 line 10:14~;0
@@ -124,14 +124,14 @@ main = ( 3 _IntPrint ).~;spawn main~run 10000000~;activity 1~out 3~done 3 at 3~;
 main = ( 'ab' print ).~;spawn main~run 10000000~;activity 1~out ab~done #8 at 5~;0
 main = ( _Clone ).~;spawn main~run 10000000~;activity 1~done #34 at 2~;0
 main = ( 3 _Zork: 4 ).~;spawn main~run 10000000~;activity 1~error primitiveNotDefined at 2 line 10:12~;0
-main = ( 536870911 _IntAdd: 1 IfFail: 0 ).~;spawn main~run 10000000~;activity 1~error notBuilt at 3 line 10:20~;0
+main = ( 536870911 _IntAdd: 1 IfFail: 0 ).~;spawn main~run 10000000~;activity 1~error notUnderstood at 3 line 10:20~;0
 main = ( 3 _IntAdd: 4 IfFail: 0 ).~;spawn main~run 10000000~;activity 1~done 7 at 5~;0
 main = ( 3 _IntAdd: true ).~;spawn main~run 10000000~;activity 1~error badTypeError at 2 line 10:12~;0
 main = ( true _IntAdd: 3 ).~;spawn main~run 2~run 1~run 1~;activity 1~stop at 2 line 10:15~error badTypeError at 2 line 10:15~refused ended~;0
 main = ( 'ab' _IntSub: 1 ).~;spawn main~run 10000000~;activity 1~error badTypeError at 2 line 10:15~;0
 main = ( nil + 3 ).~;spawn main~run 10000000~;activity 1~error notUnderstood at 2 line 10:14~;0
 main = ( -536870912 - 1 ).~;spawn main~run 10000000~run 1~;activity 1~error overflowError at 4 line 4:68~refused ended~;0
-main = ( 3 _IntAdd: nil IfFail: 0 ).~;spawn main~run 10000000~;activity 1~error notBuilt at 3 line 10:12~;0
+main = ( 3 _IntAdd: nil IfFail: 0 ).~;spawn main~run 10000000~;activity 1~error notUnderstood at 3 line 10:12~;0
 main = ( 536870911 + 1 ).~f = ( 7 ).~;spawn main~run 9~run 9~spawn f~run 9~;activity 1~error overflowError at 4 line 4:46~refused ended~activity 2~done 7 at 6~;0";
 
 #[test]

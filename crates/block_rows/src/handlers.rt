@@ -1,6 +1,9 @@
-// Rows of primitives with handlers that fail or are no sums, which are not built: a table as those of crates/block_rows.
+// Worlds whose primitives fail and have a handler. The tables are as those of `harness`.
 
-// Primitives with a handler.
+use crate::harness::agrees;
+use std::test::Fail;
+
+// What a handler gets and answers: a block, an object, a string, one that is gone, one with too few arguments; errors in a handler.
 const FAILURES: &str = "\
 make = ( [ | :e. :p | 3 ] ).~main = ( 3 _IntMul: nil IfFail: make ).~;spawn main~run 10000000~;activity 1~error nonLifoBlock at 5 line 11:12~;0
 value: e With: p = ( e print. p print. 12 ).~main = ( 3 _IntMul: nil IfFail: self ).~;spawn main~run 10000000~;activity 1~out badTypeError~out _IntMul:~done 12 at 17~;0
@@ -19,3 +22,25 @@ a = ( _IfFail: [ | :e. :p | 0 ] ).~b = ( 536870911 _IntAdd: 1 IfFail: 7 ).~c = (
 a = ( 3 _VectorNewIfFail: [ | :e. :p | 3 ] ).~b = ( -1 _VectorNewIfFail: [ | :e. :p | e print. p print. 3 ] ).~c = ( (3 _VectorNew) _At: 3 IfFail: [ | :e. :p | e print. p print. 3 ] ).~\
 d = ( (3 _VectorNew) _At: 3 Put: 4 IfFail: [ | :e. :p | e print. p print. 3 ] ).~;spawn a~run 999~spawn b~run 999~spawn c~run 999~spawn d~run 999~;activity 1~done #34 at 4~activity 2~out badSizeError~out _VectorNew~done 3 at 20~activity 3~\
 out badIndexError~out _At:~done 3 at 38~activity 4~out badIndexError~out _At:Put:~done 3 at 57~;0";
+
+// Handlers of primitives that don't fail, and those that answer nothing.
+const UNUSED: &str = "\
+main = ( 3 _IntAdd: 4 IfFail: [ | :e. :p | 9 ] ).~;spawn main~run 10000000~;activity 1~done 7 at 5~;0
+main = ( 536870911 _IntAdd: 1 IfFail: 0 ).~;spawn main~run 10000000~;activity 1~error notUnderstood at 3 line 10:20~;0
+main = ( 3 _IntAdd: nil IfFail: 0 ).~;spawn main~run 10000000~;activity 1~error notUnderstood at 3 line 10:12~;0";
+
+#[test]
+fn hands_failures_over(rt: HostRuntime) -> Result<(), Fail> {
+    for row in FAILURES.split('\n') {
+        assert!(rt; agrees(rt.alloc(), row)?, "{row}");
+    }
+    Ok(())
+}
+
+#[test]
+fn leaves_handlers_alone(rt: HostRuntime) -> Result<(), Fail> {
+    for row in UNUSED.split('\n') {
+        assert!(rt; agrees(rt.alloc(), row)?, "{row}");
+    }
+    Ok(())
+}
