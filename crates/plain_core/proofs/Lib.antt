@@ -9,3 +9,8 @@ pub mod Joining
 pub mod Rounds
 pub mod Births
 pub mod Leading
+pub mod Onward
+pub mod Counting
+pub mod Spending
+pub mod Depths
+pub mod Youngest
