@@ -3,6 +3,8 @@ pub mod Keeping
 pub mod Fronts
 pub mod Serving
 pub mod Performing
+pub mod Finding
+pub mod Handlers
 pub mod Joining
 pub mod Rounds
 pub mod Births

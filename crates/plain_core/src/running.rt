@@ -51,7 +51,7 @@ fn run_to<K: Sink>(
 ) -> Result<Counts, RunErr>
     requires at { CanGoOn language.now (host hosting.old) target }
     requires small { target ≤ 2 ^ 61 }
-    requires core { KnowsCore (host hosting.old) language.now.core }
+    requires core { KnowsCore (host hosting.old) language.now }
     requires room { (host hosting.old).next ≤ walk.old }
     ensures runs { OnOk result (Ran language.now (host hosting.old) (host hosting.new) target (K.taken out.old) (K.taken out.new)) }
     ensures reached { IfOk result (λ n. Reaches (host hosting.old) n.instructions n.services (host hosting.new)) }
@@ -90,7 +90,7 @@ pub fn run<K: Sink>(
     steps: u32,
 ) -> Result<Counts, RunErr>
     requires rests { CanRun language.now (host hosting.old) }
-    requires known { KnowsCore (host hosting.old) language.now.core }
+    requires known { KnowsCore (host hosting.old) language.now }
     requires few { steps ≤ 1000000000 }
     requires counted { count (host hosting.old) + steps ≤ 2 ^ 61 }
     requires room { (host hosting.old).next ≤ walk.old }

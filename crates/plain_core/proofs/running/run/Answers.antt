@@ -10,7 +10,7 @@ pub run_to-requires-clause-at : goal.run_to-requires-clause-at
 run_to-requires-clause-at g c = can_go c.args.language.now (host c.args.hosting.now) (host c.go_back.new.self) c.args.steps _ c.steps.result c.requires.rests c.go_back.ensures (c.saturating_sub-cost.ensures ∙ ap (λ (k : ℕ). 4194304 - k) c.cost.ensures) c.steps.ensures c.requires.few
 
 pub run_to-requires-clause-core : goal.run_to-requires-clause-core
-run_to-requires-clause-core g c = known_keeps (host c.args.hosting.now) (host c.go_back.new.self) c.args.language.now.core (ap (λ (y : Host). y.references) c.go_back.ensures) c.requires.known
+run_to-requires-clause-core g c = known_keeps (host c.args.hosting.now) (host c.go_back.new.self) c.args.language.now (ap (λ (y : Host). y.references) c.go_back.ensures) c.requires.known
 
 pub returns-clause-ran : goal.returns-clause-ran
 returns-clause-ran g c =

@@ -31,7 +31,7 @@ take_turn-requires-clause-at g c =
     record { from = s.0; spoken = s.1; out = s.2; at = at_trap (host c.loop-at.hosting) s.0 c.args.target s.2 c.in-Some.trap c.loop-at.at c.in-Some.is s.3 }
 
 pub take_turn-requires-clause-core : goal.take_turn-requires-clause-core
-take_turn-requires-clause-core g c = known_keeps (host c.args.hosting.now) (host c.loop-at.hosting) c.args.language.now.core c.loop-at.invariant.same c.requires.core
+take_turn-requires-clause-core g c = known_keeps (host c.args.hosting.now) (host c.loop-at.hosting) c.args.language.now c.loop-at.invariant.same c.requires.core
 
 pub loop-at-preserved : goal.loop-at-preserved
 loop-at-preserved g c =
