@@ -1,7 +1,7 @@
 use Rattle.plain_session.specs.Commands.{finishes}
 use Rattle.plain_session.proofs.Finished.{nobody_finishes, ended_finishes}
 use Rattle.plain_session.proofs.Obeying.{rests_inside, says_line, stays_led, stays_few}
-use Rattle.plain_session.proofs.finishing.Session.finish.Goals as goal
+use Rattle.plain_session.proofs.sessions.Session.finish.Goals as goal
 
 pub returns-in-Nobody-clause-obeys : goal.returns-in-Nobody-clause-obeys
 returns-in-Nobody-clause-obeys g c = says_line c.args.self.now c.args.self.now (finishes c.args.steps) (g.K.Sink.taken c.args.out.now) _ (nobody_finishes c.args.self.now c.args.steps (λ s r. c.in-Nobody.ensures.source s (rests_inside c.args.self.now c.self.inside.hosting c.self.inside.walk c.self.inside.language c.self.inside.instructions c.self.inside.services c.self.view_is s r)))

@@ -1,7 +1,7 @@
 use Rattle.std.proofs.Common.{◌+◌, refl, ◌∙◌, sym, arith}
 use Rattle.plain_session.proofs.Finished.{stopped_inside, finished_rests, finished_there, finished_counts, finished_obeys, finished_led}
 use Rattle.plain_session.proofs.Obeying.{can_run, known_inside, are_few, on_err}
-use Rattle.plain_session.proofs.finishing.Session.go_until_gone.Goals as goal
+use Rattle.plain_session.proofs.sessions.Session.go_until_gone.Goals as goal
 
 pub finish-requires-clause-rests : goal.finish-requires-clause-rests
 finish-requires-clause-rests g c = can_run c.args.self.now c.self.inside.hosting c.self.inside.walk c.self.inside.language c.self.inside.instructions c.self.inside.services c.self.view_is c.requires.shows c.requires.goes
