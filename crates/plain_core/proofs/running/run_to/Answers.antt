@@ -23,7 +23,7 @@ loop-at-init g c =
       reached = goes_reached (host c.args.hosting.now) (host c.go-first.new.hosting) c.go-first.result.instructions first.went;
       served = omega (arith, turns);
       taken = omega (arith, turns, few);
-      spent = λ from out going. first_behind (host c.args.hosting.now) (host c.go-first.new.hosting) c.go-first.result.instructions c.go-first.result.trap from c.args.target out first.went going (first.came from out going);
+      spent = λ from out going. (let left = first_behind (host c.args.hosting.now) (host c.go-first.new.hosting) c.go-first.result.instructions c.go-first.result.trap from c.args.target out first.went going (first.came from out going) in omega (arith, left));
       each = omega (arith, few);
       later = omega arith;
     }
