@@ -1,5 +1,5 @@
 //! Primitives that fail: such a one ends the activity, or hands a message over to its handler, and what that meets answers it.
-ghost use Rattle.std.specs.Prelude.{◌≡◌, ◌<◌, ◌≤◌, ◌≢◌, ◌+◌, ◌^◌, slice_get, IfOk, Some, false, true};
+ghost use Rattle.std.specs.Prelude.{◌≡◌, ◌<◌, ◌≤◌, ◌≢◌, ◌+◌, ◌-◌, ◌^◌, slice_get, IfOk, Some, false};
 ghost use Rattle.self_terms.specs.declared.nodes.Node.TheVariants.{Prim};
 ghost use Rattle.object_maps.specs.declared.maps.SlotKind.TheVariants.{Method};
 ghost use Rattle.slot_lookup.specs.declared.sends.Found.TheVariants.{One};
