@@ -214,10 +214,10 @@ fn enter(
 {
     match hosting.entry_of(body.0) {
         None => unreachable!(),
-        Some(0) => put(hosting, alloc, walk, language, target, failure, holder, body),
-        Some(at) => Ok(test(
-            hosting, walk, language, target, failure, holder, body, at,
-        )),
+        Some(0) => put(
+            hosting, alloc, walk, language, target, failure, holder, body,
+        ),
+        Some(at) => Ok(test(hosting, walk, language, target, failure, holder, body, at)),
     }
 }
 
@@ -248,7 +248,9 @@ fn meet(
         }
         SlotKind::Assign(_) => unreachable!(),
         SlotKind::Method(body) => {
-            enter(hosting, alloc, walk, language, target, failure, holder, body)
+            enter(
+                hosting, alloc, walk, language, target, failure, holder, body,
+            )
         }
     }
 }
@@ -279,7 +281,9 @@ fn hand(
             Ok(miss(hosting, walk, language, target, failure, error))
         }
         Found::One { holder, kind } => {
-            meet(hosting, alloc, walk, language, target, failure, holder, kind)
+            meet(
+                hosting, alloc, walk, language, target, failure, holder, kind,
+            )
         }
     }
 }
