@@ -3,7 +3,7 @@ pub mod Keeping
 pub mod Fronts
 pub mod Serving
 pub mod Performing
-pub mod Finding
+pub mod Walkable
 pub mod Handlers
 pub mod Joining
 pub mod Rounds
