@@ -94,7 +94,7 @@ loop-step-preserved g c =
         inv.said.0 ++ ran.said,
         takes_more (g.K.Sink.taken c.args.out.now) before now inv.said.0 ran.said inv.said.1 ran.takes,
         goes_onward c.args.language.now mid to taken before now ran start c.args.steps (c.args.steps - (c.loop-step._step + 1)) c.register-depth.result inv.said.0
-        (left_as c.args.language.now start mid c.args.steps (c.args.steps - c.loop-step._step) (suc (c.args.steps - (c.loop-step._step + 1))) c.register-depth.result inv.said.0 (omega (arith, less)) inv.said.2) deep,
+            (left_as c.args.language.now start mid c.args.steps (c.args.steps - c.loop-step._step) (suc (c.args.steps - (c.loop-step._step + 1))) c.register-depth.result inv.said.0 (omega (arith, less)) inv.said.2) deep,
       );
       reached = joined start mid to c.loop-step.instructions c.loop-step.services taken.instructions taken.services inv.reached ran.reached;
       served = omega (arith, served, serves);
