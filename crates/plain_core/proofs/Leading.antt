@@ -24,7 +24,7 @@ use Rattle.plain_births.specs.Births.{born}
 use Rattle.plain_births.specs.Meeting.{lobby_finds}
 use Rattle.plain_births.proofs.Units.{units_rest}
 use Rattle.plain_core.specs.Language.{Language}
-use Rattle.plain_core.specs.Leading.{Leads, Stays, Runs, Puts, Begins, Switches}
+use Rattle.plain_core.specs.Leading.{Leads, Stays, Runs, Puts, Begins, Switches, Flushes}
 use Rattle.plain_core.specs.Running.{HasRunOn}
 use Rattle.plain_core.specs.Spawning.{IsReady}
 use Rattle.plain_core.specs.declared.running.Counts.{Counts}
@@ -41,6 +41,7 @@ leads_on a b c i v j w first (Runs k u more served g to before reached) =
 leads_on a b c i v j w first (Puts k u g x memory before put) = Puts (i + k) (v + u) g x memory (leads_on a b g i v k u first before) put
 leads_on a b c i v j w first (Begins k u g room lobby holder at name x before far is found unit some) = Begins (i + k) (v + u) g room lobby holder at name x (leads_on a b g i v k u first before) far is found unit some
 leads_on a b c i v j w first (Switches k u g x before there) = Switches (i + k) (v + u) g x (leads_on a b g i v k u first before) there
+leads_on a b c i v j w first (Flushes k u g before can) = Flushes (i + k) (v + u) g (leads_on a b g i v k u first before) can
 
 -- A run.
 pub run_leads : (n : ℕ) (c : Counts) (l : Language) (h to : Host) (old new : Option (List ℕ)) → HasRunOn n c l h to old new → Leads h c.instructions c.services to

@@ -37,13 +37,15 @@ use Rattle.plain_prims.specs.Rows.{primitive_of}
 use Rattle.plain_prims.specs.Services.{heap_of, performs}
 use Rattle.plain_unwinds.specs.Services.{fails_unmarked}
 use Rattle.plain_turns.specs.Asking.{count, cost_left, node_here, place_here}
-use Rattle.plain_turns.specs.Events.{Performs, Fails}
+use Rattle.plain_turns.specs.Events.{Performs, Exceeds}
+use Rattle.plain_turns.specs.Handlers.{Applied}
 use Rattle.plain_turns.specs.Primitives.{IsPrimitive, IsOf, KnowsWords, Costs, Says, MayApply, WasApplied}
 use Rattle.plain_turns.specs.Resting.{IsAtTrap}
+use Rattle.plain_core.specs.Handing.{FailsBy}
 use Rattle.plain_core.specs.Language.{Language, IsSpoken}
 use Rattle.plain_core.specs.Turning.{StandsAt, Served, Breaks, Quiet, IsKnown, is_printing, Writes, on, ended}
 use Rattle.plain_core.specs.declared.turning.Turn.TheVariants as turns
-use Rattle.plain_turns.proofs.Primitives.{primitives_ask, lacks_end, undefined_end, primitives_may_apply, fulls_end, failures_end, answers_turn}
+use Rattle.plain_turns.proofs.Primitives.{primitives_ask, primitives_may_apply, fulls_end, failures_keep, answers_turn}
 use Rattle.plain_core.proofs.Fronts.{going_front, breaks_within, breaks_behind}
 use Rattle.plain_core.proofs.Serving.{quietly}
 
@@ -220,39 +222,32 @@ module _ (l : Language) (h : Host) (target : ℕ) (at : StandsAt l h 3 target) w
       let same : q.args ≡ args = cc in
       omega (arith, few, same)
 
-  pub lack_served : (name : Name) (args : ℕ) (implied : Bool) → node_here h ≡ Some (nodes.Prim name args implied true) → Quiet l 3 h (fails_unmarked 0 (cost_left h) errors.NotBuilt (place_here h) h) target turns.Ended
-  lack_served name args implied node = quietly l 3 h _ target turns.Ended (Fails at.at.stands 0 (cost_left h) errors.NotBuilt) refl (λ from out spoken x. ended (lacks_end h from target out x name args implied node 0 (omega arith)))
-
-  pub undefined_served : (name : Name) (args : ℕ) (implied : Bool) → node_here h ≡ Some (nodes.Prim name args implied false) → primitive_of (text_named l.names name.0) args ≡ None → Quiet l 3 h (fails_unmarked 0 (cost_left h) errors.PrimitiveNotDefined (place_here h) h) target turns.Ended
-  undefined_served name args implied node none = quietly l 3 h _ target turns.Ended (Fails at.at.stands 0 (cost_left h) errors.PrimitiveNotDefined) refl
-      (λ from out spoken x. ended (undefined_end h from target out x name args implied node (ap (λ (ns : List (List ℕ)). primitive_of (text_named ns name.0) args) spoken.names ∙ none) 0 (omega arith)))
-
-  module _ (p : Primitive) (args : ℕ) (k : IsKnown l h p args) where
-    pub of_this : (from : State) → IsSpoken l from → IsOf h from p args
-    of_this from spoken = record { name = k.name; implied = k.implied; node_is = k.node_is; is = ap (λ (ns : List (List ℕ)). primitive_of (text_named ns k.name.0) args) spoken.names ∙ k.is }
+  module _ (p : Primitive) (name : Name) (args : ℕ) (implied handler : Bool) (k : IsKnown l h p name args implied handler) where
+    pub of_this : (from : State) → IsSpoken l from → IsOf h from p args handler
+    of_this from spoken = record { name = name; implied = implied; node_is = k.node_is; is = ap (λ (ns : List (List ℕ)). primitive_of (text_named ns name.0) args) spoken.names ∙ k.is }
 
     pub full_served : (words : ℕ) → Costs h p words → 4194304 < h.cost + h.machine.regs 3 + words → Quiet l 3 h (fails_unmarked 0 (cost_left h) errors.StoreFull (place_here h) h) target turns.Ended
-    full_served words costs full = quietly l 3 h _ target turns.Ended (Fails at.at.stands 0 (cost_left h) errors.StoreFull) refl
-        (λ from out spoken x. ended (fulls_end h from target out x p args (of_this from spoken) words costs full 0 (omega arith)))
+    full_served words costs full = quietly l 3 h _ target turns.Ended (Exceeds at.at.stands 0 (cost_left h) p words costs full) refl
+        (λ from out spoken x. ended (fulls_end h from target out x p args handler (of_this from spoken) words costs full 0 (omega arith)))
 
     module _ (core : CoreWords) (known : KnowsWords h l.core core) where
       pub known_to : (from : State) → IsSpoken l from → KnowsWords h from.core core
       known_to from spoken = subst (λ (c : Core). KnowsWords h c core) (sym spoken.core) known
 
       pub may : MayApply h p args core
-      may = primitives_may_apply h at.from target at.out at.at p args (of_this at.from at.spoken) core (known_to at.from at.spoken)
+      may = primitives_may_apply h at.from target at.out at.at p args handler (of_this at.from at.spoken) core (known_to at.from at.spoken)
 
       pub operand_at : (word : ℕ) → word ≡ h.machine.regs 8 → (heap : Heap) × Operand h.maps h.machine.memory heap word
       operand_at word e = subst (λ (w : ℕ). (heap : Heap) × Operand h.maps h.machine.memory heap w) (sym e) (heap_of h, may.operand)
 
+      -- it was applied, and has failed
+      pub fails_applied : (memory : Words) (heap : Heap) (e : ErrorName) → WasApplied h p args core memory heap (answers.Fails e) → FailsBy l h name args e
+      fails_applied memory heap e was = λ from spoken. Applied p core memory heap e (ap (λ (ns : List (List ℕ)). primitive_of (text_named ns name.0) args) spoken.names ∙ k.is) (known_to from spoken) was
+
       -- it was applied, and left this host
       module _ (g : Host) (heap : Heap) (is : g ≡ with_machine h (record h.machine { memory = g.machine.memory })) where
         pub failed_same : (e : ErrorName) → WasApplied h p args core g.machine.memory heap (answers.Fails e) → g ≡ h
-        failed_same e was = unchanged h g is (failures_end h at.from target at.out at.at p args (of_this at.from at.spoken) core (known_to at.from at.spoken) g.machine.memory heap e was 0 (omega arith)).0
-
-        pub failure_served : (e : ErrorName) → WasApplied h p args core g.machine.memory heap (answers.Fails e) → Quiet l 3 h (fails_unmarked 0 (cost_left h) e (place_here h) h) target turns.Ended
-        failure_served e was = quietly l 3 h _ target turns.Ended (Fails at.at.stands 0 (cost_left h) e) refl
-            (λ from out spoken x. ended (failures_end h from target out x p args (of_this from spoken) core (known_to from spoken) g.machine.memory heap e was 0 (omega arith)).1)
+        failed_same e was = unchanged h g is (failures_keep h at.from target at.out at.at p args handler (of_this at.from at.spoken) core (known_to at.from at.spoken) g.machine.memory heap e was)
 
         module _ (word words : ℕ) (was : WasApplied h p args core g.machine.memory heap (answers.Done word)) (costs : Costs h p words) (fits : h.cost + h.machine.regs 3 + words ≤ 4194304) where
           pub printing_same : is_printing p ≡ true → g ≡ h
@@ -279,21 +274,21 @@ module _ (l : Language) (h : Host) (target : ℕ) (at : StandsAt l h 3 target) w
               e ∙ ap (λ (y : Host). performs left cost g.machine.memory heap words word y) is ∙ ap (λ (k : ℕ). performs k cost g.machine.memory heap words word h) f ∙ ap (λ (k : ℕ). performs (target - count h - 1) k g.machine.memory heap words word h) q
 
           pub objects_after : (line : List ℕ) → Says h p line → heap.next ≤ h.next + 1
-          objects_after line said = (answers_turn h at.from target at.out at.at p args (of_this at.from at.spoken) core (known_to at.from at.spoken) words costs fits g.machine.memory heap word was line said).objects
+          objects_after line said = (answers_turn h at.from target at.out at.at p args handler (of_this at.from at.spoken) core (known_to at.from at.spoken) words costs fits g.machine.memory heap word was line said).objects
 
           pub answer_served : (to : Host) (old new : Option (List ℕ)) (line : List ℕ) → to ≡ performed → Says h p line → Takes old new line → Served l 3 h to target old new turns.On
           answer_served to old new line is_to said takes =
               let P : Host → Type 0 = λ y. Served l 3 h y target old new turns.On in
               subst P (sym is_to) (record {
-                serves = Performs at.at.stands (target - count h - 1) (cost_left h - words) g.machine.memory heap words word was.outside;
+                serves = Performs at.at.stands (target - count h - 1) (cost_left h - words) name args implied handler p core g.machine.memory heap words word k.node_is costs was;
                 said = line;
                 takes = takes;
-                turned = λ from out spoken x. on refl (answers_turn h from target out x p args (of_this from spoken) core (known_to from spoken) words costs fits g.machine.memory heap word was line said).on;
+                turned = λ from out spoken x. on refl (answers_turn h from target out x p args handler (of_this from spoken) core (known_to from spoken) words costs fits g.machine.memory heap word was line said).on;
               })
 
           further : (line : List ℕ) → Says h p line → (from : State) (out : List ℕ) → IsSpoken l from → IsAtTrap h 3 from target out → (rest : List ℕ) × ((run (target - from.steps) (silent from)).out ≡ (out ++ line) ++ rest)
           further line said from out spoken x =
-              going_front performed from target (out ++ line) (answers_turn h from target out x p args (of_this from spoken) core (known_to from spoken) words costs fits g.machine.memory heap word was line said).on.going
+              going_front performed from target (out ++ line) (answers_turn h from target out x p args handler (of_this from spoken) core (known_to from spoken) words costs fits g.machine.memory heap word was line said).on.going
 
           -- the line was written, or a front of it, and no more
           pub answer_breaks : (old new : Option (List ℕ)) (line : List ℕ) → Says h p line → Takes old new line → Breaks l 3 h target old new

@@ -28,7 +28,7 @@ use Rattle.plain_served.specs.Serving.{refusal, MayTestMark}
 use Rattle.plain_units.specs.Putting.{IsPut}
 use Rattle.plain_unwinds.specs.Services.{CanUnwind, fails_unmarked, unwinds}
 use Rattle.plain_turns.specs.Asking.{count, cost_left, node_here, place_here, found_here, behind_poll, goes_back}
-use Rattle.plain_turns.specs.Events.{Serves, Waits, Answers, Assigns, Calls, Puts, Misses, Refuses, Returns, Fills, Ends}
+use Rattle.plain_turns.specs.Events.{Serves, Waits, Sends, Answers, Assigns, Calls, Puts, Misses, Refuses, Returns, Fills, Ends}
 use Rattle.plain_turns.specs.Resting.{IsAtTrap}
 use Rattle.plain_turns.specs.Rooms.{unmade}
 use Rattle.plain_turns.specs.Turns.{IsAsked, IsThere, AtTrap, is_over}
@@ -105,14 +105,14 @@ module _ (l : Language) (h : Host) (target : ℕ) where
 -- Those of messages.
 module _ (l : Language) (h : Host) (target room : ℕ) (at : StandsAt l h 1 target) (fits : h.next ≤ room) where
   pub data_served : (word : ℕ) → data_word (whole h) (found_here room h) ≡ Some word → Quiet l 1 h (data_answers (target - count h - 1) (cost_left h) word h) target turns.On
-  data_served word found = quietly l 1 h _ target turns.On (Answers at.at.stands room (target - count h - 1) (cost_left h) word fits found) refl (λ from out spoken x. on refl (data_turns h from target out room x fits word found))
+  data_served word found = quietly l 1 h _ target turns.On (Sends at.at.stands room (data_answers (target - count h - 1) (cost_left h) word h) fits (Answers (target - count h - 1) (cost_left h) word found)) refl (λ from out spoken x. on refl (data_turns h from target out room x fits word found))
 
   pub assignment_served : (holder place : ℕ) → found_here room h ≡ One holder (Assign place) → Quiet l 1 h (assigns (target - count h - 1) (cost_left h) (holder + 7 + 4 * place) h) target turns.On
-  assignment_served holder place found = quietly l 1 h _ target turns.On (Assigns at.at.stands room (target - count h - 1) (cost_left h) holder place fits found) refl
+  assignment_served holder place found = quietly l 1 h _ target turns.On (Sends at.at.stands room (assigns (target - count h - 1) (cost_left h) (holder + 7 + 4 * place) h) fits (Assigns (target - count h - 1) (cost_left h) holder place found)) refl
       (λ from out spoken x. on refl (assignments_turn h from target out room x fits holder place found))
 
   pub miss_served : (e : ErrorName) → error_of (found_here room h) ≡ Some e → Quiet l 1 h (fails_unmarked 0 (cost_left h) e (place_here h) h) target turns.Ended
-  miss_served e found = quietly l 1 h _ target turns.Ended (Misses at.at.stands room 0 (cost_left h) e fits found) refl (λ from out spoken x. ended (misses_end h from target out room x fits 0 e (omega arith) found))
+  miss_served e found = quietly l 1 h _ target turns.Ended (Sends at.at.stands room (fails_unmarked 0 (cost_left h) e (place_here h) h) fits (Misses 0 (cost_left h) e found)) refl (λ from out spoken x. ended (misses_end h from target out room x fits 0 e (omega arith) found))
 
   module _ (holder : ℕ) (c : BodyId) (found : found_here room h ≡ One holder (Method c)) where
     pub method_there : IsThere h c
@@ -125,18 +125,18 @@ module _ (l : Language) (h : Host) (target room : ℕ) (at : StandsAt l h 1 targ
     mark_there entry there some = marks_may_be_tested h at.from target at.out room at.at fits holder entry c found there some
 
     pub call_served : (entry : ℕ) → slice_get h.entries (c.0 - 1) ≡ Some entry → entry ≢ 0 → refusal h c.0 ≡ None → Quiet l 1 h (calls (target - count h) (cost_left h) entry holder h) target turns.On
-    call_served entry there some through = quietly l 1 h _ target turns.On (Calls at.at.stands room (target - count h) (cost_left h) holder entry c fits found there through) refl
+    call_served entry there some through = quietly l 1 h _ target turns.On (Sends at.at.stands room (calls (target - count h) (cost_left h) entry holder h) fits (Calls (target - count h) (cost_left h) holder entry c found there through)) refl
         (λ from out spoken x. on refl (calls_turn h from target out room x fits holder entry c found there some through))
 
     pub refusal_served : (entry : ℕ) (e : ErrorName) → slice_get h.entries (c.0 - 1) ≡ Some entry → entry ≢ 0 → refusal h c.0 ≡ Some e → Quiet l 1 h (fails_unmarked 0 (cost_left h) e (place_here h) h) target turns.Ended
-    refusal_served entry e there some refused = quietly l 1 h _ target turns.Ended (Refuses at.at.stands room 0 (cost_left h) holder c e fits found refused) refl
+    refusal_served entry e there some refused = quietly l 1 h _ target turns.Ended (Sends at.at.stands room (fails_unmarked 0 (cost_left h) e (place_here h) h) fits (Refuses 0 (cost_left h) holder c e found refused)) refl
         (λ from out spoken x. ended (refusals_end h from target out room x fits 0 holder entry c e (omega arith) found there some refused))
 
     pub unit_served : (memory : Words) → slice_get h.entries (c.0 - 1) ≡ Some 0 → IsPut h c.0 memory
         → Quiet l 1 h (goes_back (behind_poll (asked l h target room at fits).selector.args) (target - count h) (cost_left h) (with_unit c.0 memory h)) target turns.On
     unit_served memory none put =
         let a = asked l h target room at fits in
-        quietly l 1 h _ target turns.On (Puts at.at.stands room (target - count h) (cost_left h) holder (behind_poll a.selector.args) c memory fits found put) refl
+        quietly l 1 h _ target turns.On (Sends at.at.stands room (goes_back (behind_poll a.selector.args) (target - count h) (cost_left h) (with_unit c.0 memory h)) fits (Puts (target - count h) (cost_left h) holder (behind_poll a.selector.args) c memory found put)) refl
         (λ from out spoken x. again (units_turn h from target out room x fits a holder c found none memory put))
 
 -- What the calls tell, put together.
@@ -195,7 +195,7 @@ module _ {l : Language} {h to : Host} {target : ℕ} where
 aligned_by : (k : ℕ) → (0x10000400 + 4 * k) % 4 ≡ 0
 aligned_by k = omega arith
 
-next_aligned : (h : Host) → next_unit h % 4 ≡ 0
+pub next_aligned : (h : Host) → next_unit h % 4 ≡ 0
 next_aligned h = aligned_by (length h.points)
 
 pub back_is : (l : Language) (h : Host) (target room back : ℕ) (at : StandsAt l h 1 target) (fits : h.next ≤ room) → ((s : Selector) → option_and_then selector_of (node_here h) ≡ Some s → back ≡ behind_poll s.args) → back ≡ behind_poll (asked l h target room at fits).selector.args

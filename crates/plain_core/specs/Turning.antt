@@ -64,11 +64,9 @@ pub record Quiet (l : Language) (trap : ℕ) (h to : Host) (target : ℕ) (t : T
   pub served : (taken : Option (List ℕ)) → Served l trap h to target taken taken t
   pub objects : to.next ≡ h.next
 
--- The node at whose trap the machine stands is that of this primitive, without a handler.
-pub record IsKnown (l : Language) (h : Host) (p : Primitive) (args : ℕ) : Type 0 where
-  pub name : Name
-  pub implied : Bool
-  pub node_is : node_here h ≡ Some (nodes.Prim name args implied false)
+-- The node at whose trap the machine stands is that of this primitive, of this name, with a handler or without.
+pub record IsKnown (l : Language) (h : Host) (p : Primitive) (name : Name) (args : ℕ) (implied handler : Bool) : Type 0 where
+  pub node_is : node_here h ≡ Some (nodes.Prim name args implied handler)
   pub is : primitive_of (text_named l.names name.0) args ≡ Some p
 
 abbrev pub is_printing : Primitive → Bool

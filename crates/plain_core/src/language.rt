@@ -1,6 +1,7 @@
-//! What the host knows of the language in a session: its names, which of them are those of primitives, and the objects that the language itself knows.
-ghost use Rattle.std.specs.Prelude.{◌≡◌, map, slice_get, IfOk};
-ghost use Rattle.source_model.specs.Names.{text_named};
+//! What the host knows of the language in a session: its names, which of them are those of primitives and which is that of the message to a handler, the
+//! objects that the language itself knows, and where the strings stand that every world has.
+ghost use Rattle.std.specs.Prelude.{◌≡◌, ◌<◌, ◌+◌, ◌^◌, codes, map, slice_get, IfOk};
+ghost use Rattle.source_model.specs.Names.{number_of, text_named};
 ghost use Rattle.prim_table.specs.Kinds.{args_of, kind_of};
 ghost use Rattle.prim_table.specs.Named.{prim_named};
 ghost use Rattle.plain_prims.specs.Rows.{primitive_of, taking};
@@ -14,24 +15,27 @@ use std::marker::Model;
 // No session has more names.
 const MOST_NAMES: usize = 1 << 30;
 
-/// The names of a session and the objects that the language knows; and for each name its primitive, where it has one.
+/// The names of a session, the objects that the language knows, the number of the first of the strings that every world has, and the name of the message
+/// that a failed primitive sends to its handler; and for each name its primitive, where it has one.
 #[derive(Drop)]
 pub struct Language {
     names: Names,
     core: Core,
+    fixed: u32,
+    failure: Name,
     rows: Vec<Option<Primitive>>,
 }
 
 impl Model for Language {
-    ghost use Rattle.std.specs.Prelude.{◌≡◌, map};
+    ghost use Rattle.std.specs.Prelude.{◌≡◌, ◌<◌, ◌+◌, ◌^◌, map};
     ghost use Rattle.prim_table.specs.Named.{prim_named};
     ghost use Rattle.plain_core.specs.Language.{Language as Known};
 
     ghost Value = { Known };
 
-    ghost view = { λ l. record { names = l.names; core = l.core } };
+    ghost view = { λ l. record { names = l.names; core = l.core; fixed = l.fixed; failure = l.failure.0 } };
 
-    ghost invariant = { λ l. l.rows.items ≡ map prim_named l.names };
+    ghost invariant = { λ l. (l.rows.items ≡ map prim_named l.names) × (l.fixed + 26 < 2 ^ 32) };
 }
 
 // How many arguments a primitive takes.
@@ -88,12 +92,27 @@ fn row_at(rows: &Vec<Option<Primitive>>, at: usize) -> Option<Option<Primitive>>
 }
 
 impl Language {
-    /// The language of a session with these names, which knows these objects.
-    pub fn open(alloc: Global, names: Names, core: Core) -> Result<Language, OutOfMemory>
-        ensures { IfOk result (λ l. l ≡ record { names = names; core = core }) }
+    /// The language of a session with these names, which knows these objects and has the strings of every world from this number on; `failure` is the name
+    /// of the message that a failed primitive sends to its handler.
+    pub fn open(
+        alloc: Global,
+        names: Names,
+        core: Core,
+        fixed: u32,
+        failure: Name,
+    ) -> Result<Language, OutOfMemory>
+        requires strings { fixed + 26 < 2 ^ 32 }
+        requires told { failure.0 ≡ number_of names (codes "value:With:") }
+        ensures { IfOk result (λ l. l ≡ record { names = names; core = core; fixed = fixed; failure = number_of names (codes "value:With:") }) }
     {
         let rows = rows_of(alloc, &names)?;
-        Ok(Language { names, core, rows })
+        Ok(Language {
+            names,
+            core,
+            fixed,
+            failure,
+            rows,
+        })
     }
 
     /// The names.
@@ -108,6 +127,21 @@ impl Language {
         ensures { result ≡ self.now.core }
     {
         self.core
+    }
+
+    /// The number of the first of the strings that every world has.
+    pub fn fixed(&self) -> u32
+        ensures is { result ≡ self.now.fixed }
+        ensures strings { result + 26 < 2 ^ 32 }
+    {
+        self.fixed
+    }
+
+    /// The name of the message that a failed primitive sends to its handler.
+    pub fn failure(&self) -> Name
+        ensures { result.0 ≡ self.now.failure }
+    {
+        self.failure
     }
 
     /// The primitive of a name with so many arguments.

@@ -31,6 +31,7 @@ ghost use Rattle.plain_core.specs.Turning.{Breaks, Came, CanGoOn, IsKnown, Quiet
 ghost use Rattle.plain_core.specs.declared.running.RunErr.TheVariants.{Write};
 ghost use Rattle.plain_core.specs.declared.turning.Turn.TheVariants.{Ended};
 
+use crate::handing::give_up;
 use crate::language::Language;
 use crate::running::RunErr;
 use io_ports::Sink;
@@ -90,7 +91,7 @@ pub(crate) fn go(hosting: &mut Hosting, _language: &Language, _target: u64) -> A
 }
 
 // What is left of the goal.
-fn left(hosting: &Hosting, _language: &Language, _trap: u8, target: u64) -> u32
+pub(crate) fn left(hosting: &Hosting, _language: &Language, _trap: u8, target: u64) -> u32
     requires at { StandsAt _language.now (host hosting.now) _trap target }
     requires small { target ≤ 2 ^ 61 }
     ensures { result ≡ target - count (host hosting.now) }
@@ -99,7 +100,7 @@ fn left(hosting: &Hosting, _language: &Language, _trap: u8, target: u64) -> u32
 }
 
 // What is left of the plain cost.
-fn cost_left(hosting: &Hosting, _language: &Language, _trap: u8, _target: u64) -> u32
+pub(crate) fn cost_left(hosting: &Hosting, _language: &Language, _trap: u8, _target: u64) -> u32
     requires at { StandsAt _language.now (host hosting.now) _trap _target }
     ensures { result ≡ cost_left (host hosting.now) }
 {
@@ -146,7 +147,7 @@ fn place_at(hosting: &Hosting, body: u32, node: u32) -> Place
 }
 
 // The place of the node in whose words the machine stands.
-fn place_here(hosting: &Hosting) -> Place
+pub(crate) fn place_here(hosting: &Hosting) -> Place
     requires { (host hosting.now).machine.pc + 4 < 2 ^ 32 }
     ensures { result ≡ place_here (host hosting.now) }
 {
@@ -246,7 +247,13 @@ fn back_of(hosting: &Hosting, _walk: &Walk, _target: u64) -> u32
 }
 
 // The activity ends by an error of the node at whose trap the machine stands, and with it the run.
-fn fail(hosting: &mut Hosting, language: &Language, trap: u8, target: u64, error: ErrorName) -> Turn
+pub(crate) fn fail(
+    hosting: &mut Hosting,
+    language: &Language,
+    trap: u8,
+    target: u64,
+    error: ErrorName,
+) -> Turn
     requires at { StandsAt language.now (host hosting.old) trap target }
     requires small { target ≤ 2 ^ 61 }
     requires other { trap ≢ 9 }
@@ -349,7 +356,7 @@ fn is_costly(hosting: &Hosting, b: u32) -> bool
 }
 
 // Why the method of a body isn't called for the message, where it isn't.
-fn refusal(hosting: &Hosting, b: u32) -> Option<ErrorName>
+pub(crate) fn refusal(hosting: &Hosting, b: u32) -> Option<ErrorName>
     requires given { 0 < b }
     requires within { b ≤ length (host hosting.now).bodies }
     requires translates { CanTranslate (body_in (host hosting.now).bodies b) }
@@ -590,53 +597,21 @@ fn leave(hosting: &mut Hosting, language: &Language, target: u64) -> Turn
     }
 }
 
-// A primitive with a handler isn't built yet.
-fn lack(
-    hosting: &mut Hosting,
-    language: &Language,
-    target: u64,
-    _name: Name,
-    _args: u8,
-    _implied: bool,
-) -> Turn
-    requires at { StandsAt language.now (host hosting.old) 3 target }
-    requires small { target ≤ 2 ^ 61 }
-    requires node { node_here (host hosting.old) ≡ Some (Prim _name _args _implied true) }
-    ensures { Quiet language.now 3 (host hosting.old) (host hosting.new) target result }
-{
-    fail(hosting, language, 3, target, ErrorName::NotBuilt)
-}
-
-// One that isn't defined fails.
-fn fail_undefined(
-    hosting: &mut Hosting,
-    language: &Language,
-    target: u64,
-    _name: Name,
-    _args: u8,
-    _implied: bool,
-) -> Turn
-    requires at { StandsAt language.now (host hosting.old) 3 target }
-    requires small { target ≤ 2 ^ 61 }
-    requires node { node_here (host hosting.old) ≡ Some (Prim _name _args _implied false) }
-    requires undefined { primitive_of (text_named language.now.names _name.0) _args ≡ None }
-    ensures { Quiet language.now 3 (host hosting.old) (host hosting.new) target result }
-{
-    fail(hosting, language, 3, target, ErrorName::PrimitiveNotDefined)
-}
-
 // One for which more would be taken than is left of the plain cost fills the store.
 fn fail_costly(
     hosting: &mut Hosting,
     language: &Language,
     target: u64,
     _prim: Primitive,
+    _name: Name,
     _args: u8,
+    _implied: bool,
+    _handler: bool,
     _words: u32,
 ) -> Turn
     requires at { StandsAt language.now (host hosting.old) 3 target }
     requires small { target ≤ 2 ^ 61 }
-    requires known { IsKnown language.now (host hosting.old) _prim _args }
+    requires known { IsKnown language.now (host hosting.old) _prim _name _args _implied _handler }
     requires costs { Costs (host hosting.old) _prim _words }
     requires full { 4194304 < (host hosting.old).cost + (host hosting.old).machine.regs 3 + _words }
     ensures { Quiet language.now 3 (host hosting.old) (host hosting.new) target result }
@@ -646,7 +621,7 @@ fn fail_costly(
 
 // The words of the objects that the language knows.
 fn core_words(hosting: &Hosting, language: &Language) -> CoreWords
-    requires { KnowsCore (host hosting.now) language.now.core }
+    requires { KnowsCore (host hosting.now) language.now }
     ensures { KnowsWords (host hosting.now) language.now.core result }
 {
     let core = language.core();
@@ -706,7 +681,7 @@ fn make_room(walk: &mut Walk, alloc: Global, objects: u32) -> Result<(), OutOfMe
     Ok(())
 }
 
-// Applies a primitive whose cost fits: it answers, and the words go on behind the trap; or it fails.
+// Applies a primitive whose cost fits: it answers, and the words go on behind the trap; or it fails, and its handler gets a message where it has one.
 fn apply<K: Sink>(
     hosting: &mut Hosting,
     alloc: Global,
@@ -715,14 +690,17 @@ fn apply<K: Sink>(
     out: &mut K,
     target: u64,
     prim: Primitive,
+    name: Name,
     args: u8,
+    implied: bool,
+    handler: bool,
     words: u32,
 ) -> Result<Turn, RunErr>
     requires at { StandsAt language.now (host hosting.old) 3 target }
     requires small { target ≤ 2 ^ 61 }
-    requires core { KnowsCore (host hosting.old) language.now.core }
+    requires core { KnowsCore (host hosting.old) language.now }
     requires room { (host hosting.old).next ≤ walk.old }
-    requires known { IsKnown language.now (host hosting.old) prim args }
+    requires known { IsKnown language.now (host hosting.old) prim name args implied handler }
     requires count { args ≤ 5 }
     requires costs { Costs (host hosting.old) prim words }
     requires fits { (host hosting.old).cost + (host hosting.old).machine.regs 3 + words ≤ 4194304 }
@@ -739,7 +717,14 @@ fn apply<K: Sink>(
     let applied = hosting.apply_asked(core, prim, args as usize);
     hosting.is_whole();
     match applied.answer {
-        PrimAnswer::Fails(error) => Ok(fail(hosting, language, 3, target, error)),
+        PrimAnswer::Fails(error) => {
+            match give_up(
+                hosting, alloc, walk, language, target, name, args, implied, handler, error,
+            ) {
+                Ok(turn) => Ok(turn),
+                Err(_) => Err(RunErr::OutOfMemory),
+            }
+        }
         PrimAnswer::Done(word) => {
             write_line(hosting, alloc, prim, out)?;
             hosting.perform(goal, cost, applied.heap, words, word);
@@ -749,7 +734,7 @@ fn apply<K: Sink>(
     }
 }
 
-// A primitive without a handler is served.
+// A primitive is served.
 fn perform_known<K: Sink>(
     hosting: &mut Hosting,
     alloc: Global,
@@ -758,13 +743,16 @@ fn perform_known<K: Sink>(
     out: &mut K,
     target: u64,
     prim: Primitive,
+    name: Name,
     args: u8,
+    implied: bool,
+    handler: bool,
 ) -> Result<Turn, RunErr>
     requires at { StandsAt language.now (host hosting.old) 3 target }
     requires small { target ≤ 2 ^ 61 }
-    requires core { KnowsCore (host hosting.old) language.now.core }
+    requires core { KnowsCore (host hosting.old) language.now }
     requires room { (host hosting.old).next ≤ walk.old }
-    requires known { IsKnown language.now (host hosting.old) prim args }
+    requires known { IsKnown language.now (host hosting.old) prim name args implied handler }
     requires count { args ≤ 5 }
     ensures served { IfOk result (λ t. Served language.now 3 (host hosting.old) (host hosting.new) target (K.taken out.old) (K.taken out.new) t) }
     ensures roomy { OnOk result ((host hosting.new).next ≤ walk.new) }
@@ -775,10 +763,12 @@ fn perform_known<K: Sink>(
 {
     let words = hosting.words_taken(prim, hosting.register(8));
     if MOST_COST < hosting.cost() + words as u64 {
-        return Ok(fail_costly(hosting, language, target, prim, args, words));
+        return Ok(fail_costly(
+            hosting, language, target, prim, name, args, implied, handler, words,
+        ));
     }
     apply(
-        hosting, alloc, walk, language, out, target, prim, args, words,
+        hosting, alloc, walk, language, out, target, prim, name, args, implied, handler, words,
     )
 }
 
@@ -794,7 +784,7 @@ fn perform_node<K: Sink>(
 ) -> Result<Turn, RunErr>
     requires at { StandsAt language.now (host hosting.old) 3 target }
     requires small { target ≤ 2 ^ 61 }
-    requires core { KnowsCore (host hosting.old) language.now.core }
+    requires core { KnowsCore (host hosting.old) language.now }
     requires room { (host hosting.old).next ≤ walk.old }
     requires here { node_here (host hosting.old) ≡ Some node }
     ensures served { IfOk result (λ t. Served language.now 3 (host hosting.old) (host hosting.new) target (K.taken out.old) (K.taken out.new) t) }
@@ -811,14 +801,19 @@ fn perform_node<K: Sink>(
             implied,
             handler,
         } => {
-            if handler {
-                return Ok(lack(hosting, language, target, name, args, implied));
-            }
             match language.primitive(name, args) {
-                None => Ok(fail_undefined(hosting, language, target, name, args, implied)),
-                Some(prim) => {
-                    perform_known(hosting, alloc, walk, language, out, target, prim, args)
+                None => {
+                    let error = ErrorName::PrimitiveNotDefined;
+                    match give_up(
+                        hosting, alloc, walk, language, target, name, args, implied, handler, error,
+                    ) {
+                        Ok(turn) => Ok(turn),
+                        Err(_) => Err(RunErr::OutOfMemory),
+                    }
                 }
+                Some(prim) => perform_known(
+                    hosting, alloc, walk, language, out, target, prim, name, args, implied, handler,
+                ),
             }
         }
         _ => unreachable!(),
@@ -836,7 +831,7 @@ fn perform<K: Sink>(
 ) -> Result<Turn, RunErr>
     requires at { StandsAt language.now (host hosting.old) 3 target }
     requires small { target ≤ 2 ^ 61 }
-    requires core { KnowsCore (host hosting.old) language.now.core }
+    requires core { KnowsCore (host hosting.old) language.now }
     requires room { (host hosting.old).next ≤ walk.old }
     ensures served { IfOk result (λ t. Served language.now 3 (host hosting.old) (host hosting.new) target (K.taken out.old) (K.taken out.new) t) }
     ensures roomy { OnOk result ((host hosting.new).next ≤ walk.new) }
@@ -863,7 +858,7 @@ fn serve<K: Sink>(
 ) -> Result<Turn, RunErr>
     requires at { StandsAt language.now (host hosting.old) trap target }
     requires small { target ≤ 2 ^ 61 }
-    requires core { KnowsCore (host hosting.old) language.now.core }
+    requires core { KnowsCore (host hosting.old) language.now }
     requires room { (host hosting.old).next ≤ walk.old }
     ensures served { IfOk result (λ t. Served language.now trap (host hosting.old) (host hosting.new) target (K.taken out.old) (K.taken out.new) t) }
     ensures roomy { OnOk result ((host hosting.new).next ≤ walk.new) }
@@ -898,7 +893,7 @@ pub(crate) fn take_turn<K: Sink>(
 ) -> Result<Passed, RunErr>
     requires at { StandsAt language.now (host hosting.old) trap target }
     requires small { target ≤ 2 ^ 61 }
-    requires core { KnowsCore (host hosting.old) language.now.core }
+    requires core { KnowsCore (host hosting.old) language.now }
     requires room { (host hosting.old).next ≤ walk.old }
     ensures on { IfOk result (λ p. TurnsOn language.now trap (host hosting.old) (host hosting.new) target (K.taken out.old) (K.taken out.new) p) }
     ensures roomy { OnOk result ((host hosting.new).next ≤ walk.new) }

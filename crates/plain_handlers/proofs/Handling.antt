@@ -91,6 +91,7 @@ failures_are_handled z h s b n name args implied true r q f e is has error primi
         rest = q.rest;
       };
       sender_is = refl;
+      receives = refl;
     }
 failures_are_handled z h s b n name args implied false r q f e is has error primitive known = absurd (cc)
 
@@ -109,7 +110,7 @@ handlers_are_found z h s b n name args implied handler r q f error primitive g r
     }
 
 -- it is accepted with two arguments
-two_accepted : (s : State) (a : Activation) (older : List Activation) (name : Name) (args : ℕ) (implied handler : Bool) (v : Value) → slice_get s.activities s.current ≡ Some (Running (a ∷ older)) → node_at (body_of s a.body) a.next ≡ nodes.Prim name args implied handler
+pub two_accepted : (s : State) (a : Activation) (older : List Activation) (name : Name) (args : ℕ) (implied handler : Bool) (v : Value) → slice_get s.activities s.current ≡ Some (Running (a ∷ older)) → node_at (body_of s a.body) a.next ≡ nodes.Prim name args implied handler
     → handler_of handler (here_of s a older) ≡ Some v → (w : IsWellFormed s) → MetAccepts w.0 s (record { receiver = v; arguments = v ∷ v ∷ []; rest = [] }) (meets s v (failure_name s))
 two_accepted s a older name args implied handler v here is one w =
     let accepts = subst (λ (x : Node). NodeAccepts w.0 (here_of s a older) x) is (finds_messages w.0 s w.1 a older here) in

@@ -48,6 +48,7 @@ pub record IsHandled (z : Sense) (h : Host) (s : State) (b n : ℕ) (name : Name
   pub stands : IsValue z.cells z.places value (q.asks.to.regs (9 + args))
   pub sent : IsMessaged z h s b n (nodes.Prim name args implied handler) 2 (failure_name s) (meets s value (failure_name s)) r (hands_over (q.asks.to.regs (9 + args)) error primitive q.asks.to)
   pub sender_is : sent.sender ≡ q.sender
+  pub receives : sent.message.receiver ≡ value
 
 -- each primitive that fails and has a handler is such
 abbrev pub FailuresAreHandled : Type 0

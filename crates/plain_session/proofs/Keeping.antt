@@ -11,10 +11,11 @@ use Rattle.source_model.specs.Sends.{Outcome, then_do, begun, entry_cost, entere
 use Rattle.source_model.specs.State.{Activation, State, Reached, silent}
 use Rattle.source_model.specs.Texts.{error_text}
 use Rattle.source_model.proofs.Keeping.{either}
+use Rattle.raw_steps.specs.Fixed.{IsFixed}
 
--- the same names and core objects, and no step more
+-- the same names, bodies, core objects and fixed strings, and no step more
 abbrev pub Keeps : State → State → Type 0
-Keeps s t = (t.names ≡ s.names) × (t.core ≡ s.core) × (t.steps ≡ s.steps)
+Keeps s t = IsFixed s t × (t.steps ≡ s.steps)
 
 module _ (r : Reached) where
   abbrev Tried : Outcome → Type 0
@@ -23,7 +24,7 @@ module _ (r : Reached) where
 
   entered_by : (a : Activation) (c : ℕ) (p q : Bool)
       → Tried (cond p (then_do (cond q (Ok (record (with_activity r.state) { cost = c })) (Err errors.StoreFull)) (λ (t : State). Ok (silent (entered a [] t)))) (Err errors.StackOverflow))
-  entered_by a c true true = (refl, refl, refl)
+  entered_by a c true true = (record { names = refl; core = refl; fixed = refl; bodies = refl }, refl)
   entered_by a c true false = tt
   entered_by a c false q = tt
 
@@ -34,17 +35,17 @@ module _ (r : Reached) where
 
   spawned_keeps : (o : Outcome) → Tried o → Keeps r.state (spawned o r).state
   spawned_keeps (Ok t) k = k
-  spawned_keeps (Err e) k = (refl, refl, refl)
+  spawned_keeps (Err e) k = (record { names = refl; core = refl; fixed = refl; bodies = refl }, refl)
 
   met_keeps : (met : Met) → Keeps r.state (spawn_met met r).state
-  met_keeps (Missing e) = (refl, refl, refl)
+  met_keeps (Missing e) = (record { names = refl; core = refl; fixed = refl; bodies = refl }, refl)
   met_keeps (Holds o (Method b)) =
       let a = begun r.state b.0 (values.Object 0) o None [] in
       spawned_keeps (enters a [] (with_activity r.state)) (enters_tried a)
-  met_keeps (Holds o (Constant v)) = (refl, refl, refl)
-  met_keeps (Holds o (Assignable v)) = (refl, refl, refl)
-  met_keeps (Holds o Assignment) = (refl, refl, refl)
-  met_keeps (Holds o (Parent p)) = (refl, refl, refl)
+  met_keeps (Holds o (Constant v)) = (record { names = refl; core = refl; fixed = refl; bodies = refl }, refl)
+  met_keeps (Holds o (Assignable v)) = (record { names = refl; core = refl; fixed = refl; bodies = refl }, refl)
+  met_keeps (Holds o Assignment) = (record { names = refl; core = refl; fixed = refl; bodies = refl }, refl)
+  met_keeps (Holds o (Parent p)) = (record { names = refl; core = refl; fixed = refl; bodies = refl }, refl)
 
   abbrev To : Reached → Type 0
   To t = Keeps r.state t.state
@@ -52,4 +53,4 @@ module _ (r : Reached) where
   pub spawn_keeps : (name : List ℕ) → Keeps r.state (spawn name r).state
   spawn_keeps name =
       let met = meets r.state (values.Object 0) (number_of r.state.names name) in
-      either To (nat_lt (length r.state.activities) 4) (spawn_met met r) (refused (codes "too many activities") r) (met_keeps met) (refl, refl, refl)
+      either To (nat_lt (length r.state.activities) 4) (spawn_met met r) (refused (codes "too many activities") r) (met_keeps met) (record { names = refl; core = refl; fixed = refl; bodies = refl }, refl)

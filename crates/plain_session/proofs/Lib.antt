@@ -1,10 +1,11 @@
-pub mod Onward
-pub mod Counting
-pub mod Gated
+pub mod Running
 pub mod Writing
 pub mod Keeping
 pub mod Fronts
 pub mod Knowing
+pub mod Stacking
 pub mod Obeying
+pub mod Telling
 pub mod Switching
 pub mod Naming
+pub mod Finished

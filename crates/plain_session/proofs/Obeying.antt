@@ -1,6 +1,6 @@
 -- Commands obeyed.
 use Rattle.std.proofs.Common.{◌≡◌, ◌≢◌, ℕ, zero, suc, ◌+◌, ◌-◌, ◌^◌, ◌<◌, ◌≤◌, refl, ◌∙◌, ap, sym, subst, arith, inl, inr, append_assoc}
-use Rattle.std.specs.Prelude.{◌++◌, nat_le, if◌then◌else◌, List, [], ◌∷◌, length, Option, Some, None, Result, Ok, Err, IfOk, OnErr, slice_get, codes}
+use Rattle.std.specs.Prelude.{◌++◌, nat_le, if◌then◌else◌, List, [], ◌∷◌, length, Option, Some, None, Result, Ok, Err, IfOk, OnOk, OnErr, slice_get, codes}
 use Rattle.std.proofs.lemmas.Bool.{cond-true, cond-false, le-leb, lt-leb}
 use Rattle.std.proofs.lemmas.Option.{slice_get_within}
 use Rattle.self_terms.specs.declared.errors.ErrorName.{ErrorName}
@@ -16,6 +16,7 @@ use Rattle.source_model.specs.Step.{run}
 use Rattle.plain_host.specs.Hosted.{Hosted, host}
 use Rattle.plain_runs.specs.Host.{Host}
 use Rattle.plain_runs.specs.declared.status.Status.{Status}
+use Rattle.raw_steps.specs.Fixed.{IsFixed}
 use Rattle.plain_begins.proofs.Starting.{activities_agree}
 use Rattle.plain_stretches.specs.Printing.{printed}
 use Rattle.plain_turns.specs.Asking.{count}
@@ -32,13 +33,13 @@ use Rattle.run_lines.specs.Standing.{IsStanding, GoesOn}
 use Rattle.run_lines.specs.declared.current.Standing.TheVariants as standings
 use Rattle.session_text.specs.declared.commands.Command.{Command}
 use Rattle.session_text.specs.declared.commands.Command.TheVariants as commands
-use Rattle.plain_session.specs.Commands.{obeyed, steps_on, goes_to}
+use Rattle.plain_session.specs.Commands.{obeyed, steps_on, goes_to, finishes, stacks}
 use Rattle.plain_session.specs.Sessions.{Session, host_of, Shows, IsShown, Obeys, HasObeyed, HasBroken, IsLed, CountsFew, birth_text}
-use Rattle.plain_session.proofs.Gated.{RunsOn, run_remains, run_from}
+use Rattle.plain_session.proofs.Running.{RunsOn, run_remains, run_from}
 use Rattle.plain_session.proofs.Writing.{spawn_writes, run_text}
 use Rattle.plain_session.proofs.Keeping.{spawn_keeps}
 use Rattle.plain_session.proofs.Fronts.{takes_none, no_front, front_of_first}
-use Rattle.plain_session.proofs.Knowing.{still_spoken, still_known}
+use Rattle.plain_session.proofs.Knowing.{still_spoken, still_known, still_short}
 
 -- Machine and host count the steps of the state, and have its current activity.
 pub counts_as : (h : Host) (s : State) → Rests h s → count h ≡ s.steps
@@ -55,19 +56,20 @@ pub record Follows (x y : Session) : Type 0 where
   pub references : (host_of y).references ≡ (host_of x).references
   pub room : (host_of y).next ≤ y.room
 
-shows_after : (x y : Session) (s t : State) → Follows x y → Shows x s → Rests (host_of y) t → t.names ≡ s.names → t.core ≡ s.core → Shows y t
-shows_after x y s t f sh r names core = record {
+pub shows_after : (x y : Session) (s t : State) → Follows x y → Shows x s → Rests (host_of y) t → IsFixed s t → Shows y t
+shows_after x y s t f sh r fixed = record {
   rests = r;
-  spoken = subst (λ (l : Language). IsSpoken l t) (sym f.language) (still_spoken x.language s t names core sh.spoken);
-  known = subst (λ (l : Language). KnowsCore (host_of y) l.core) (sym f.language) (still_known (host_of x) (host_of y) x.language.core f.references sh.known);
+  spoken = subst (λ (l : Language). IsSpoken l t) (sym f.language) (still_spoken x.language s t fixed sh.spoken);
+  known = subst (λ (l : Language). KnowsCore (host_of y) l) (sym f.language) (still_known (host_of x) (host_of y) x.language f.references sh.known);
   room = f.room;
+  short = still_short s t fixed sh.short;
 }
 
 module _ (x y : Session) (name : List ℕ) (f : Follows x y) where
   shows_spawned : (q : Reached) (t : State) → Shows x q.state → Rests (host_of y) t → (spawn name q).state ≡ t → Shows y (spawn name q).state
   shows_spawned q t sh r e =
       let k = spawn_keeps q name in
-      shows_after x y q.state (spawn name q).state f sh (subst (λ (s : State). Rests (host_of y) s) (sym e) r) k.0 k.1
+      shows_after x y q.state (spawn name q).state f sh (subst (λ (s : State). Rests (host_of y) s) (sym e) r) k.0
 
   abbrev Obeyed : Reached → List ℕ → Type 0
   Obeyed q text = Shows y (spawn name q).state × ((spawn name q).out ≡ q.out ++ text)
@@ -145,7 +147,7 @@ module _ (x y : Session) (n : ℕ) (f : Follows x y) (k : Counts) (old new : Opt
     on = subst (λ (t : Reached). RunsOn n q.state t.state) runs_to (run_remains n q)
 
     pub shows_run : Shows y has.state
-    shows_run = shows_after x y q.state has.state f sh has.rests on.names on.core
+    shows_run = shows_after x y q.state has.state f sh has.rests on.fixed
 
     pub counts_few : count (host_of y) ≤ count (host_of x) + n
     counts_few = let a = counts_as (host_of x) q.state sh.rests in let b = counts_as (host_of y) has.state has.rests in let few = on.few in omega (arith, a, b, few)
@@ -219,7 +221,7 @@ past_is : (n : ℕ) (all : List Activation) (q : Reached) → slice_get q.state.
 unfolding goes_to
 past_is n all q here lt = past_over n all (slice_get q.state.activities q.state.current) q here lt
 
-refused_as : (x : Session) (does : Reached → Reached) (why : List ℕ) (q : Reached) → Shows x q.state → does q ≡ refused why q → Shows x (does q).state × ((does q).out ≡ q.out ++ line (codes "refused " ++ why))
+pub refused_as : (x : Session) (does : Reached → Reached) (why : List ℕ) (q : Reached) → Shows x q.state → does q ≡ refused why q → Shows x (does q).state × ((does q).out ≡ q.out ++ line (codes "refused " ++ why))
 refused_as x does why q sh e = (subst (λ (t : Reached). Shows x t.state) (sym e) sh, ap (λ (t : Reached). t.out) e)
 
 pub past_obeys : (x : Session) (n done : ℕ) → done ≡ count (host_of x) → n < done → ((s : State) → Rests (host_of x) s → IsStanding s standings.Goes) → Obeys x x (goes_to n) (line (codes "refused past"))
@@ -254,7 +256,7 @@ ended_continues x n is q sh = elim (is q.state sh.rests) [
 abbrev pub of_parts : Hosted → ℕ → Language → ℕ → ℕ → Session
 of_parts hosted room language instructions services = record { hosted = hosted; room = room; language = language; instructions = instructions; services = services }
 
-none_beyond : (xs : List Status) (k : ℕ) → slice_get xs k ≡ None → length xs ≤ k
+pub none_beyond : (xs : List Status) (k : ℕ) → slice_get xs k ≡ None → length xs ≤ k
 none_beyond [] k e = omega arith
 none_beyond (y ∷ ys) zero e = absurd (cc)
 none_beyond (y ∷ ys) (suc k) e = omega (arith, none_beyond ys k e)
@@ -275,7 +277,7 @@ module _ (x : Session) (old : Hosted) (room : ℕ) (language : Language) (i v : 
       let g = both.1 in
       record { state = both.0.0; rests = sh.rests; spoken = sh.spoken; sp = g.0; pc = g.1; known = g.2; waits = g.3 }
 
-  pub known_inside : IsShown x → KnowsCore (host old) language.core
+  pub known_inside : IsShown x → KnowsCore (host old) language
   known_inside shown = let s : IsShown (of_parts old room language i v) = subst IsShown (sym is) shown in s.1.known
 
   pub broken_inside : (n : ℕ) (taken now : Option (List ℕ)) → ((s : State) → Rests (host_of x) s → IsStanding s standings.Goes) → RunBroke n language (host old) taken now → HasBroken x (steps_on n) taken now
@@ -320,12 +322,12 @@ module _ (x : Session) (old new : Hosted) (room after : ℕ) (language : Languag
     pub spawned_counts : count (host new) ≡ count (host_of x)
     spawned_counts =
         counts_as (host new) (spawn name (silent shown_before.0)).state spawned_shows.rests
-        ∙ (spawn_keeps (silent shown_before.0) name).2 ∙ sym (counts_as (host old) shown_before.0 shown_before.1.rests) ∙ ap (λ (z : Session). count (host_of z)) is
+        ∙ (spawn_keeps (silent shown_before.0) name).1 ∙ sym (counts_as (host old) shown_before.0 shown_before.1.rests) ∙ ap (λ (z : Session). count (host_of z)) is
 
   pub are_led : (n m : ℕ) → Leads (host old) n m (host new) → j ≡ i + n → w ≡ v + m → IsLed x now
   are_led n m leads e f = subst (λ (z : Session). IsLed z now) is (record { instructions = n; services = m; leads = leads; done = e; served = f })
 
-  pub are_few : (n m : ℕ) → j ≡ i + n → w ≡ v + m → n ≤ 2 ^ 70 → m ≤ 2 ^ 30 → CountsFew x now
+  pub are_few : (n m : ℕ) → j ≡ i + n → w ≡ v + m → n ≤ 2 ^ 73 → m ≤ 2 ^ 33 → CountsFew x now
   are_few n m e f le lt = subst (λ (z : Session). CountsFew z now) is (record { instructions = omega (arith, e, le); services = omega (arith, f, lt) })
 
   module _ (n : ℕ) (k : Counts) (taken told : Option (List ℕ)) (ran : HasRunOn n k language (host old) (host new) taken told) where
@@ -374,9 +376,20 @@ pub err_then : {T E : Type 0} (r : Result T E) {P Q : Type 0} → OnErr r P → 
 err_then (Ok t) p f = tt
 err_then (Err e) p f = f p
 
+pub ok_so : {T E : Type 0} (r : Result T E) {P Q : Type 0} → OnOk r P → (P → Q) → OnOk r Q
+ok_so (Ok t) p f = f p
+ok_so (Err e) p f = tt
+
 pub ok_then : {T E : Type 0} (r : Result T E) {P Q : T → Type 0} → IfOk r P → ((t : T) → P t → Q t) → IfOk r Q
 ok_then (Ok t) p f = f t p
 ok_then (Err e) p f = tt
+
+-- the same of another command that does the same
+pub obeyed_as : (x y : Session) (d e : Reached → Reached) (old new : Option (List ℕ)) (text : List ℕ) → d ≡ e → HasObeyed x y e old new text → HasObeyed x y d old new text
+obeyed_as x y d e old new text is o = subst (λ (f : Reached → Reached). HasObeyed x y f old new text) (sym is) o
+
+pub broken_as : (x : Session) (d e : Reached → Reached) (old new : Option (List ℕ)) → d ≡ e → HasBroken x e old new → HasBroken x d old new
+broken_as x d e old new is b = subst (λ (f : Reached → Reached). HasBroken x f old new) (sym is) b
 
 -- Which command it is.
 
@@ -411,3 +424,11 @@ interrupt_is c n e = ap obeyed e
 pub switch_is : (c : Command) (k : ℕ) → c ≡ commands.Switch k → obeyed c ≡ switch k
 unfolding obeyed
 switch_is c k e = ap obeyed e
+
+pub finish_is : (c : Command) (n : ℕ) → c ≡ commands.Finish n → obeyed c ≡ finishes n
+unfolding obeyed
+finish_is c n e = ap obeyed e
+
+pub stack_is : (c : Command) → c ≡ commands.Stack → obeyed c ≡ stacks
+unfolding obeyed
+stack_is c e = ap obeyed e

@@ -95,9 +95,10 @@ module _ (x : Session) (old new : Hosted) (room : ℕ) (language : Language) (i 
         let room_is = sh.room in
         record {
           rests = subst (λ (h : Host). Rests h (with_current k s)) (sym to) (switches_rest (host old) s k sh.rests there).rests;
-          spoken = still_spoken language s (with_current k s) refl refl sh.spoken;
-          known = still_known (host old) (host new) language.core (ap (λ (h : Host). h.references) to ∙ references_stay k (host old)) sh.known;
+          spoken = still_spoken language s (with_current k s) (record { names = refl; core = refl; fixed = refl; bodies = refl }) sh.spoken;
+          known = still_known (host old) (host new) language (ap (λ (h : Host). h.references) to ∙ references_stay k (host old)) sh.known;
           room = omega (arith, next_is, room_is);
+          short = sh.short;
         }
 
     comes : (q : Reached) → Shows before q.state → switch n q ≡ becomes (with_current k q.state) (activity_line (k + 1)) q

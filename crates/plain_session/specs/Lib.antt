@@ -1,3 +1,4 @@
 -- Sessions in plain code.
+pub mod Stacks
 pub mod Sessions
 pub mod Commands

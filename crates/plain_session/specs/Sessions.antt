@@ -11,6 +11,7 @@ use Rattle.plain_core.specs.Language.{Language, IsSpoken, KnowsCore}
 use Rattle.plain_core.specs.Leading.{Leads}
 use Rattle.plain_core.specs.declared.spawning.Birth.{Birth}
 use Rattle.plain_core.specs.declared.spawning.Birth.TheVariants.{Begun, Refused, NotAMethod, TooMany}
+use Rattle.plain_session.specs.Stacks.{AreShort}
 
 -- What it holds: machine and host; room for walks over so many objects; what the host knows of the language; and how many instructions its machine has
 -- done, and how many services its host has given.
@@ -25,13 +26,14 @@ pub record Session : Type 0 where
 abbrev pub host_of : Session → Host
 host_of x = host x.hosted
 
--- Machine and host stand for the state, which is one of the session; units know the words of the language's objects; and there is room for walks over all
--- objects.
+-- Machine and host stand for the state, which is one of the session; units know the words of the language's objects; there is room for walks over all
+-- objects; and the names of bodies leave room for the lines of their activations.
 pub record Shows (x : Session) (s : State) : Type 0 where
   pub rests : Rests (host_of x) s
   pub spoken : IsSpoken x.language s
   pub known : KnowsCore (host_of x) x.language
   pub room : (host_of x).next ≤ x.room
+  pub short : AreShort s.names s.bodies
 
 abbrev pub IsShown : Session → Type 0
 IsShown x = (s : State) × Shows x s
@@ -63,10 +65,10 @@ pub record CanCount (x : Session) : Type 0 where
   pub instructions : x.instructions ≤ 2 ^ 126
   pub services : x.services ≤ 2 ^ 62
 
--- they rose by no more than those of a run
+-- they rose by no more than those of a run, or of one that goes on until an activation is gone
 pub record CountsFew (x y : Session) : Type 0 where
-  pub instructions : y.instructions ≤ x.instructions + 2 ^ 70
-  pub services : y.services ≤ x.services + 2 ^ 30
+  pub instructions : y.instructions ≤ x.instructions + 2 ^ 73
+  pub services : y.services ≤ x.services + 2 ^ 33
 
 -- the line of what a spawn came to, where machine and host are these then
 abbrev pub birth_text : Host → Birth → List ℕ

@@ -1,6 +1,6 @@
 //! Sessions and their commands.
-ghost use Rattle.std.specs.Prelude.{◌≡◌, ◌≢◌, ◌≤◌, ◌+◌, ◌^◌, ◌++◌, ℕ, [], true, codes, length, slice_get, None, Some, IfOk, OnErr, IsErrOf};
-ghost use Rattle.io_ports.specs.Causes.{Rose};
+ghost use Rattle.std.specs.Prelude.{◌≡◌, ◌≢◌, ◌≤◌, ◌+◌, ◌^◌, ◌++◌, ℕ, [], true, codes, length, slice_get, None, Some, IfOk, OnOk, OnErr, IsErrOf};
+ghost use Rattle.io_ports.specs.Causes.{HasCause, Rose};
 ghost use Rattle.source_model.specs.Formed.{IsWellFormed, arity};
 ghost use Rattle.source_model.specs.Lines.{activity_line};
 ghost use Rattle.source_model.specs.Script.{spawn, switch};
@@ -19,30 +19,34 @@ ghost use Rattle.plain_turns.specs.Resting.{Rests};
 ghost use Rattle.world_blocks.specs.Sessions.{session_names};
 ghost use Rattle.world_state.specs.Begun.{begun};
 ghost use Rattle.world_test.specs.Further.{starts_fixed};
-ghost use Rattle.plain_session.specs.Commands.{is_built, obeyed, steps_on, goes_to};
+ghost use Rattle.plain_session.specs.Commands.{is_built, obeyed, steps_on, goes_to, finishes, stacks};
+ghost use Rattle.plain_session.specs.Stacks.{rest_text, RestHasRoom};
 ghost use Rattle.plain_session.specs.Sessions.{host_of, Shows, IsShown, Obeys, HasObeyed, HasBroken, IsLed, CanCount, CountsFew, birth_text};
 
-use io_ports::Sink;
+use crate::lengths::are_short;
+use crate::stacks::StackWriter;
+use io_ports::{Failed, Sink};
 use plain_core::{Birth, Language, RunErr};
 use plain_host::Hosting;
 use run_lines::{Standing, run_line, standing_of};
 use self_terms::{ErrorName, Name, OutOfMemory};
 use session_text::{Command, LineText};
 use slot_lookup::Walk;
-use std::alloc::Global;
+use std::alloc::{AllocError, Global};
 use std::marker::Model;
 use world_heap::WorldImage;
 use world_test::{number_of, session_names};
 
 /// Machine and host of a world; room for walks over its objects; what the host knows of the language; and how many instructions the machine has done,
-/// and how many services the host has given.
+/// and how many services the host has given. Beside them there is room to show stacks in.
 #[derive(Drop)]
 pub struct Session {
-    hosting: Hosting,
-    walk: Walk,
-    language: Language,
-    instructions: u128,
-    services: u64,
+    pub(crate) hosting: Hosting,
+    pub(crate) walk: Walk,
+    pub(crate) language: Language,
+    pub(crate) instructions: u128,
+    pub(crate) services: u64,
+    pub(crate) stacks: StackWriter,
 }
 
 impl Model for Session {
@@ -101,7 +105,8 @@ fn birth_line(hosting: &Hosting, birth: Birth) -> LineText<'static>
 }
 
 impl Session {
-    /// The session over a world, with its names and those that a session has behind them, which shows the state with which it begins.
+    /// The session over a world, with its names and those that a session has behind them, which shows the state with which it begins. Where names leave the
+    /// line of an activation no room, memory is wanting.
     pub fn open(alloc: Global, image: WorldImage) -> Result<Session, OutOfMemory>
         requires opens { CanOpen image.world }
         requires formed { IsWellFormed (begun image.world (session_names image.world) 0) }
@@ -116,15 +121,21 @@ impl Session {
         image.is_whole();
         let core = image.world().core();
         let names = session_names(alloc, image.world().names())?;
-        let language = Language::open(alloc, names, core)?;
+        if !are_short(&names, image.world()) {
+            return Err(AllocError);
+        }
+        let fixed = image.world().objects();
+        let failure = number_of(&names, b"value:With:");
         let hosting = plain_opens::open(alloc, image)?;
         let walk = Walk::open(alloc, hosting.next())?;
+        let language = Language::open(alloc, names, core, fixed, Name(failure))?;
         Ok(Session {
             hosting,
             walk,
             language,
             instructions: 0,
             services: 0,
+            stacks: StackWriter::open(alloc)?,
         })
     }
 
@@ -296,20 +307,58 @@ impl Session {
         }
     }
 
-    /// A command that is built: `out` takes what a run prints, and the line is given. After want of memory or a failed write in a run the session can't
-    /// go on.
+    // The lines of the current activity's activations, where it goes on.
+    fn tell<K: Sink>(&mut self, out: &mut K) -> Result<(), Failed>
+        requires shows { IsShown self.old }
+        requires goes { GoesOn (host_of self.old) }
+        requires stands { (s : State) → Rests (host_of self.old) s → IsStanding s standings.Goes }
+        ensures obeys { OnOk result (HasObeyed self.old self.new stacks (K.taken out.old) (K.taken out.new) []) }
+        ensures counted { count (host_of self.new) ≡ count (host_of self.old) }
+        ensures led { IsLed self.old self.new }
+        ensures rose { CountsFew self.old self.new }
+        ensures broken { OnErr result (HasBroken self.old stacks (K.taken out.old) (K.taken out.new)) }
+        ensures cause { HasCause (K.faults out.old) (K.faults out.new) result }
+    {
+        self.stacks.write(&mut self.hosting, &self.language, out)
+    }
+
+    /// The command `stack`: `out` takes the lines of the current activity's activations, the youngest first, and no line is given; or the line is given that
+    /// refuses the command. Takes no memory.
+    pub fn stack<K: Sink>(&mut self, out: &mut K) -> Result<Option<LineText<'static>>, RunErr>
+        requires shows { IsShown self.old }
+        ensures obeys { IfOk result (λ t. HasObeyed self.old self.new stacks (K.taken out.old) (K.taken out.new) (rest_text t)) }
+        ensures room { IfOk result RestHasRoom }
+        ensures counted { IfOk result (λ t. count (host_of self.new) ≡ count (host_of self.old)) }
+        ensures led { IfOk result (λ t. IsLed self.old self.new) }
+        ensures rose { IfOk result (λ t. CountsFew self.old self.new) }
+        ensures broken { OnErr result (HasBroken self.old stacks (K.taken out.old) (K.taken out.new)) }
+        ensures later { K.faults out.old ≤ K.faults out.new }
+        ensures cause { IsErrOf result Write → Rose (K.faults out.old) (K.faults out.new) }
+    {
+        match standing_of(&self.hosting) {
+            Standing::Nobody => Ok(Some(LineText::Fixed("refused no activity"))),
+            Standing::Goes => match self.tell(out) {
+                Ok(()) => Ok(None),
+                Err(_) => Err(RunErr::Write),
+            },
+            Standing::Ended => Ok(Some(LineText::Fixed("refused ended"))),
+        }
+    }
+
+    /// A command that is built: `out` takes what it writes, but for a last line that is given. After want of memory or a failed write the session can't go
+    /// on.
     pub fn obey<K: Sink>(
         &mut self,
         alloc: Global,
         command: &Command,
         out: &mut K,
-    ) -> Result<LineText<'static>, RunErr>
+    ) -> Result<Option<LineText<'static>>, RunErr>
         requires shows { IsShown self.old }
         requires counted { count (host_of self.old) ≤ 2 ^ 60 }
         requires fits { CanCount self.old }
         requires built { is_built command.now ≡ true }
-        ensures obeys { IfOk result (λ t. HasObeyed self.old self.new (obeyed command.now) (K.taken out.old) (K.taken out.new) (line_text t)) }
-        ensures room { IfOk result HasRoom }
+        ensures obeys { IfOk result (λ t. HasObeyed self.old self.new (obeyed command.now) (K.taken out.old) (K.taken out.new) (rest_text t)) }
+        ensures room { IfOk result RestHasRoom }
         ensures counted { IfOk result (λ t. count (host_of self.new) ≤ count (host_of self.old) + 1000000000) }
         ensures led { IfOk result (λ t. IsLed self.old self.new) }
         ensures rose { IfOk result (λ t. CountsFew self.old self.new) }
@@ -318,12 +367,14 @@ impl Session {
         ensures cause { IsErrOf result Write → Rose (K.faults out.old) (K.faults out.new) }
     {
         match command {
-            Command::Spawn(name) => Ok(self.spawn(alloc, name.as_slice())?),
-            Command::Run(steps) => self.run(alloc, *steps, out),
-            Command::Switch(k) => Ok(self.switch(*k)),
-            Command::Continue(steps) => self.continue_to(alloc, *steps, out),
-            Command::Step => self.run(alloc, 1, out),
-            Command::Interrupt(steps) => self.run(alloc, *steps, out),
+            Command::Spawn(name) => Ok(Some(self.spawn(alloc, name.as_slice())?)),
+            Command::Switch(k) => Ok(Some(self.switch(*k))),
+            Command::Run(steps) => Ok(Some(self.run(alloc, *steps, out)?)),
+            Command::Continue(steps) => Ok(Some(self.continue_to(alloc, *steps, out)?)),
+            Command::Step => Ok(Some(self.run(alloc, 1, out)?)),
+            Command::Interrupt(steps) => Ok(Some(self.run(alloc, *steps, out)?)),
+            Command::Finish(steps) => Ok(Some(self.finish(alloc, *steps, out)?)),
+            Command::Stack => self.stack(out),
             _ => unreachable!(),
         }
     }

@@ -1,22 +1,19 @@
 -- At the trap of a message.
 use Rattle.std.proofs.Common.{◌≡◌, ℕ, zero, suc, ◌+◌, ◌-◌, ◌*◌, ◌<◌, ◌≤◌, refl, ◌∙◌, ap, sym, subst, arith, inl, inr, length-append}
-use Rattle.std.specs.Prelude.{◌⊎◌, Bool, true, false, List, [], ◌∷◌, ◌++◌, length, Some, Err}
+use Rattle.std.specs.Prelude.{◌⊎◌, Bool, true, false, List, [], ◌∷◌, ◌++◌, length, Some}
 use Rattle.std.proofs.lemmas.Option.{same_Some, none-some}
-use Rattle.self_terms.specs.declared.errors.ErrorName.{ErrorName}
 use Rattle.self_terms.specs.declared.nodes.Node.{Node}
 use Rattle.self_terms.specs.declared.nodes.Node.TheVariants as nodes
 use Rattle.self_terms.specs.declared.nodes.Selector.{Selector}
+use Rattle.self_terms.specs.declared.values.Value.{Value}
 use Rattle.object_maps.specs.declared.maps.SlotKind.TheVariants.{Field, Assign}
 use Rattle.slot_lookup.specs.declared.sends.Found.{Found}
 use Rattle.slot_lookup.specs.declared.sends.Found.TheVariants.{One}
 use Rattle.sparc_machine.specs.State.{MachineState}
 use Rattle.sparc_store.specs.Words.{HasWord}
-use Rattle.source_model.specs.Sends.{Here}
 use Rattle.source_model.specs.Soundness.{body_in, HasBody}
-use Rattle.source_model.specs.State.{Failed as Ended_by, State, silent, with_current}
-use Rattle.source_model.specs.Step.{done, settled, place_of, step}
-use Rattle.raw_steps.specs.Sends.{here_of}
-use Rattle.raw_steps.proofs.Nexts.{step_at}
+use Rattle.source_model.specs.State.{Activation, State}
+use Rattle.source_model.specs.Step.{place_of}
 use Rattle.sparc_insn.specs.declared.insn.Insn.{Insn}
 use Rattle.sparc_insn.specs.declared.insn.Insn.TheVariants.{Trap}
 use Rattle.sparc_machine.specs.Alu.{add}
@@ -31,14 +28,16 @@ use Rattle.plain_runs.specs.Units.{node_offset}
 use Rattle.plain_runs.specs.Course.{with_machine, code_at}
 use Rattle.plain_runs.proofs.Pointed.{next_offset}
 use Rattle.plain_sends.specs.Sends.{selector_of, met_of}
-use Rattle.plain_lookups.specs.Telling.{MayLook, start_of, begins_at, found_by, FoundTells, IsFound}
+use Rattle.plain_lookups.specs.Telling.{MayLook, start_of, begins_at, sent_to, found_by, FoundTells, IsFound}
 use Rattle.plain_lookups.proofs.Telling.{founds_tell}
 use Rattle.plain_stretches.specs.Standing.{left_of}
 use Rattle.plain_stretches.specs.Stretches.{Halts, AtGoal, AtSend, AtPrimitive, AtHome, AtFull, AtEnd, Sends}
-use Rattle.plain_stretches.proofs.Further.{gate_is}
 use Rattle.plain_turns.specs.Asking.{count, body_here, node_here, place_here, found_for, found_here, behind_poll}
 use Rattle.plain_turns.specs.Resting.{IsAtTrap}
 use Rattle.plain_turns.specs.Turns.{MessagesAsk, FieldsAreRead}
+use Rattle.plain_turns.proofs.Messaged.{IsAsking}
+use Rattle.plain_turns.proofs.Onward.{stopped_as}
+use Rattle.plain_turns.proofs.Telling.{method_told}
 use Rattle.plain_turns.proofs.Places.{Points, node_points, sent_points, sent_place}
 
 -- a node that sends has led there
@@ -58,17 +57,12 @@ few_arguments (nodes.Resend y) sel e short = let same : y ≡ sel = same_Some y 
 few_arguments (nodes.Directed p y) sel e short = let same : y ≡ sel = same_Some y sel e in omega (arith, ap (λ (q : Selector). q.args) same, short)
 few_arguments _ sel e short = absurd (none-some sel e)
 
--- a message is built
-pub sent_built : (h : Here) (node : Node) (sel : Selector) → selector_of node ≡ Some sel → is_built h node ≡ true
-sent_built h (nodes.Prim name args implied handler) sel e = absurd (none-some sel e)
-sent_built h node sel e = refl
-
 -- how many words a message takes
 arguments_long : (to locals k n : ℕ) → length (arguments_code to locals k n) ≡ n
 arguments_long to locals k zero = refl
 arguments_long to locals k (suc n) = ap suc (arguments_long (to + 1) locals (k + 1) n)
 
-handed_long : (implied : Bool) (locals k n : ℕ) → length (handed_code implied locals k n) ≡ suc n
+pub handed_long : (implied : Bool) (locals k n : ℕ) → length (handed_code implied locals k n) ≡ suc n
 handed_long true locals k n = ap suc (arguments_long 9 locals k n)
 handed_long false locals k n = ap suc (arguments_long 9 locals (k + 1) n)
 
@@ -172,17 +166,59 @@ module _ (h : Host) (from : State) (target : ℕ) (out : List ℕ) (x : IsAtTrap
       let before : h.steps + x.last.regs 2 ≡ x.state.steps = x.on.sound.stands.stands.steps in
       omega (arith, before, moved.counted)
 
-  -- the state's step is built
-  pub entering : step x.state ≡ step x.state
-  entering =
-      gate_is x.state sent.sent.sender sent.sent.older x.on.node true sent.sent.is_at.here sent.sent.is_at.node_is (sent_built (here_of x.state sent.sent.sender sent.sent.older) x.on.node sent.selector sent.is)
+-- the value at which a lookup begins is the message's receiver
+begins_sent : (node : Node) (a : Activation) (v : Value) → begins_at node a ≡ Some v → sent_to node a ≡ v
+begins_sent (nodes.Send sel) a v e = cc
+begins_sent (nodes.SelfSend sel) a v e = cc
+begins_sent _ a v e = absurd (cc)
 
-  -- a step that is an error
-  pub error_step : (e : ErrorName) → done (here_of x.state sent.sent.sender sent.sent.older) x.on.node ≡ Err e → step x.state ≡ silent (with_current (Ended_by e (place_here h)) x.state)
-  error_step e err =
-      step_at x.state sent.sent.sender sent.sent.older x.on.node sent.sent.is_at.here sent.sent.is_at.node_is
-      ∙ ap (settled (here_of x.state sent.sent.sender sent.sent.older)) err
-      ∙ ap (λ p. silent (with_current (Ended_by e p) x.state)) place_is
+-- The message at the trap.
+pub asking : (h : Host) (from : State) (target : ℕ) (out : List ℕ) (room : ℕ) (x : IsAtTrap h 1 from target out) → h.next ≤ room
+    → IsAsking h from target out (sent h from target out x).selector.args (sent h from target out x).selector.name.0 (behind_poll (sent h from target out x).selector.args) (found_here room h)
+asking h from target out room x le =
+    let q = sent h from target out x in
+    let p = q.sent in
+    let to = p.asks.to in
+    let z = x.sense in
+    let s = x.state in
+    let node = x.on.node in
+    let args = q.selector.args in
+    let name = q.selector.name.0 in
+    let bytes = behind_poll args in
+    let found = found_here room h in
+    let receiver = begins_at node p.sender in
+    let tells = tells_of h from target out x room le found refl in
+    let P : MachineState → Type 0 = λ m. IsAsking (with_machine h m) from target out args name bytes found in
+    subst P (sym q.there) (record {
+      stop = stopped_as h 1 from target out x to;
+      can = q.can;
+      few = few h from target out x;
+      node = node;
+      runs_at = x.on.at;
+      met = met_of node s p.sender;
+      message = record {
+        at = p.at;
+        moved = p.asks.moved;
+        behind = p.behind;
+        low = p.low;
+        takes = p.takes;
+        sender = p.sender;
+        older = p.older;
+        is_at = p.is_at;
+        message = p.message;
+        words = p.words;
+        send = p.send;
+        receiver_is = p.receiver_is;
+        arguments = p.arguments;
+        rest = p.rest;
+      };
+      receiver = receiver;
+      received = λ v e. (looked h from target out x room le).message ∙ begins_sent node p.sender v e;
+      tells = tells;
+      is_method = λ holder c e. method_told z s h.bodies x.on.sound.stands.bodies p.sender p.older node q.selector p.is_at.here p.is_at.node_is q.is x.formed (to.regs 8) name holder c (tells.method holder c e);
+      place = place_is h from target out x ∙ ap (λ m. place_here (with_machine h m)) q.there;
+      behind = sym (ap (λ (m : MachineState). m.pc) q.there) ∙ behind_is h from target out x;
+    })
 
 pub messages_ask : MessagesAsk
 messages_ask h from target out room x le =

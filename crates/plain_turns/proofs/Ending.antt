@@ -33,7 +33,7 @@ use Rattle.plain_turns.specs.Asking.{place_here, cost_left}
 use Rattle.plain_turns.specs.Resting.{IsAtTrap, HasRun}
 use Rattle.plain_turns.specs.Turns.{GoalsEnd, AnswersEnd, StoresFill}
 use Rattle.source_model.proofs.Forming.{steps_form}
-use Rattle.plain_turns.proofs.Onward.{by_count, set_status, last_step, idle, ready_as, paid_once_settled, paid_settled, error_ends}
+use Rattle.plain_turns.proofs.Onward.{stopped, by_count, set_status, last_step, idle, ready_as, paid_once_settled, paid_settled, error_ends}
 use Rattle.plain_turns.proofs.Places.{filled_points, behind_place}
 
 -- Nothing was left of the goal.
@@ -44,7 +44,7 @@ goal_at h trap from target out x two (AtGoal e none w) = (
   λ goal few.
       let cost = cost_left h in
       let to = waits goal cost h in
-      let paid = paid_settled h trap from target out x (x.last.pc + 20) w.moved goal in
+      let paid = paid_settled h from target out (stopped h trap from target out x) (x.last.pc + 20) w.moved goal in
       record {
         state = x.state;
         runs = by_count (target - from.steps) x.done (silent from) (omega (arith, none, x.left_is, x.counted)) ∙ x.runs;
@@ -112,7 +112,7 @@ answer_at h trap from target out x nine (AtEnd e q) goal few =
     let stood = subst Q (sym q.there) q.ends.stands in
     let whole = subst W (sym q.there) q.ends.hosted.within in
     let done = has_answered q.ends.sense (answered h) t (h.machine.regs 8) stood (set_status h.statuses h.current (Answered (h.machine.regs 8)) (Waiting v.sp v.pc v.known) v.running) in
-    let now : step s ≡ silent t = q.built ∙ (λ i. record { state = t; out = q.ends.silent i }) in
+    let now : step s ≡ silent t = (λ i. record { state = t; out = q.ends.silent i }) in
     let costs : h.cost + h.machine.regs 3 ≡ t.cost = stood.stands.cost in
     let top : x.last.regs 6 ≤ x.start + 4 * (h.cost + x.last.regs 3) = x.paid.top in
     let left : word_at x.last.memory 0x30000004 + h.cost ≡ 4194304 = x.paid.left in
@@ -160,8 +160,8 @@ full_at h trap from target out x eight (AtFull e q) goal few =
     let node_is : node_at (body_of s f.sender.body) f.sender.next ≡ node = ap (λ (y : Activation). node_at (body_of s y.body) y.next) (sym same) ∙ its.at.node_is in
     let place = behind_place x.sense at s x.on h.machine f.sender f.older f.here (filled_points x.sense at s x.on h.machine q) in
     let is : step s ≡ silent (with_current (Ended_by errors.StoreFull (place_of s f.sender)) s) = step_at s f.sender f.older node f.here node_is ∙ ap (settles (here_of s f.sender f.older)) f.error in
-    let now : step s ≡ silent (with_current (Ended_by errors.StoreFull (place_here h)) s) = q.built ∙ is ∙ ap (λ p. silent (with_current (Ended_by errors.StoreFull p) s)) place in
-    error_ends h trap from target out x f.at q.can mv f.sender f.older f.here errors.StoreFull (place_here h) now goal few
+    let now : step s ≡ silent (with_current (Ended_by errors.StoreFull (place_here h)) s) = is ∙ ap (λ p. silent (with_current (Ended_by errors.StoreFull p) s)) place in
+    error_ends h from target out (stopped h trap from target out x) f.at q.can mv f.sender f.older f.here errors.StoreFull (place_here h) now goal few
 
 pub stores_fill : StoresFill
 stores_fill h from target out x goal few = full_at h 8 from target out x refl x.halts goal few

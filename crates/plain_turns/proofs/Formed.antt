@@ -1,20 +1,18 @@
 -- Steps behind the gate keep a state well formed.
 use Rattle.std.proofs.Common.{◌≡◌, ℕ, zero, suc, ◌<◌, subst, arith}
-use Rattle.std.specs.Prelude.{Bool, true, false, if◌then◌else◌, List, [], ◌∷◌, Option, Some, None, slice_get}
+use Rattle.std.specs.Prelude.{List}
 use Rattle.self_terms.specs.declared.errors.ErrorName.{ErrorName}
 use Rattle.self_terms.specs.declared.nodes.Place.{Place}
 use Rattle.self_terms.specs.declared.values.Value.{Value}
 use Rattle.self_terms.specs.declared.values.Value.TheVariants as values
-use Rattle.source_model.specs.State.{Activation, Activity, Running, Answered, Failed, State, Reached, silent, with_current}
+use Rattle.source_model.specs.State.{Failed, State, Reached, silent, with_current}
 use Rattle.source_model.specs.Canon.{ActivityHas}
 use Rattle.source_model.specs.Soundness.{IsActivity}
-use Rattle.source_model.specs.Step.{step, node_at, onward, run}
-use Rattle.source_model.specs.Messages.{body_of}
+use Rattle.source_model.specs.Step.{onward, run}
 use Rattle.source_model.specs.Formed.{ThingHolds, ActivityHolds, IsThere, AreInOrder, IsWellFormed}
 use Rattle.source_model.proofs.Keeping.{set_each}
 use Rattle.source_model.proofs.Having.{each}
 use Rattle.source_model.proofs.Forming.{thing_holds, activity_holds, steps_form}
-use Rattle.raw_steps.specs.Sends.{here_of}
 use Rattle.plain_stretches.specs.Printing.{printed}
 use Rattle.plain_stretches.proofs.Settled.{set_long}
 

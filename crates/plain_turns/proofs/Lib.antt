@@ -10,6 +10,7 @@ pub mod Counting
 pub mod Primitives
 pub mod Asked
 pub mod Telling
+pub mod Messaged
 pub mod Answering
 pub mod Putting
 pub mod Served

@@ -5,8 +5,10 @@ use Rattle.self_terms.specs.declared.errors.ErrorName.{ErrorName}
 use Rattle.self_terms.specs.declared.nodes.Place.{Place}
 use Rattle.sparc_store.specs.Words.{Words, word_at, IsWithin}
 use Rattle.sparc_machine.specs.State.{MachineState}
+use Rattle.source_model.specs.Formed.{IsWellFormed}
 use Rattle.source_model.specs.State.{Activation, Running, Failed as Ended_by, State, Reached, silent, with_current}
 use Rattle.source_model.specs.Step.{step, run}
+use Rattle.raw_steps.specs.Stands.{Sense}
 use Rattle.plain_words.specs.Moves.{Moved}
 use Rattle.plain_runs.specs.Host.{Host}
 use Rattle.plain_runs.specs.declared.status.Status.{Status}
@@ -19,7 +21,7 @@ use Rattle.plain_begins.specs.Begins.{CanPark, Idle}
 use Rattle.plain_unwinds.specs.Services.{fails_unmarked}
 use Rattle.plain_unwinds.proofs.Ended.{activities_end_unmarked}
 use Rattle.plain_stretches.specs.Printing.{printed}
-use Rattle.plain_stretches.specs.Standing.{left_of}
+use Rattle.plain_stretches.specs.Standing.{IsOn, left_of}
 use Rattle.plain_stretches.specs.Stretches.{StretchOn}
 use Rattle.plain_stretches.proofs.Further.{then_run, failed_rests}
 use Rattle.plain_stretches.proofs.Joining.{runs_join}
@@ -71,7 +73,44 @@ paid_once_settled start h goal paid whole fits = record {
   left = omega (arith, left_there h.machine.memory goal (cost_left h) whole, fits);
 }
 
-module _ (h : Host) (trap : ℕ) (from : State) (target : ℕ) (out : List ℕ) (x : IsAtTrap h trap from target out) where
+-- The machine of a host has stopped: it came from a node's poll, where it was this, in the middle of a run from a state.
+pub record IsStopped (h : Host) (from : State) (target : ℕ) (out : List ℕ) : Type 0 where
+  pub sense : Sense
+  pub state : State
+  pub done : ℕ
+  pub runs : run done (silent from) ≡ printed state out
+  pub counted : state.steps ≡ from.steps + done
+  pub last : MachineState
+  pub on : IsOn sense (with_machine h last) state
+  pub formed : IsWellFormed state
+  pub ready : IsReady h
+  pub start : ℕ
+  pub paid : IsPaid start (with_machine h last)
+  pub near : left_of (with_machine h last) ≤ 1000000000
+  pub left_is : state.steps + left_of (with_machine h last) ≡ target
+
+-- so it has at each trap, and so it had if it were another machine
+abbrev pub stopped_as : (h : Host) (trap : ℕ) (from : State) (target : ℕ) (out : List ℕ) → IsAtTrap h trap from target out → (m : MachineState) → IsStopped (with_machine h m) from target out
+stopped_as h trap from target out x m = record {
+  sense = x.sense;
+  state = x.state;
+  done = x.done;
+  runs = x.runs;
+  counted = x.counted;
+  last = x.last;
+  on = x.on;
+  formed = x.formed;
+  ready = ready_as m h.statuses h.steps h.cost h x.ready;
+  start = x.start;
+  paid = x.paid;
+  near = x.near;
+  left_is = x.left_is;
+}
+
+abbrev pub stopped : (h : Host) (trap : ℕ) (from : State) (target : ℕ) (out : List ℕ) → IsAtTrap h trap from target out → IsStopped h from target out
+stopped h trap from target out x = stopped_as h trap from target out x h.machine
+
+module _ (h : Host) (from : State) (target : ℕ) (out : List ℕ) (x : IsStopped h from target out) where
   abbrev pub at_poll : Host
   at_poll = with_machine h x.last
 

@@ -1,6 +1,6 @@
 -- Primitives at their traps.
 use Rattle.std.proofs.Common.{◌≡◌, ℕ, zero, suc, ◌+◌, ◌-◌, ◌*◌, ◌<◌, ◌≤◌, refl, ◌∙◌, ap, sym, subst, arith, length-append}
-use Rattle.std.specs.Prelude.{Bool, true, false, nat_le, List, [], ◌∷◌, length, Option, Some, None, Ok, Err}
+use Rattle.std.specs.Prelude.{Bool, false, nat_le, List, [], ◌∷◌, length, Option, Some, None, Ok, Err}
 use Rattle.std.proofs.lemmas.Bool.{cond-false}
 use Rattle.std.proofs.lemmas.Grind.{common_steps}
 use Rattle.std.proofs.lemmas.Option.{same_Some}
@@ -48,34 +48,30 @@ use Rattle.plain_prims.proofs.Performing.{done_by_effect, answers_perform}
 use Rattle.plain_prims.proofs.Rows.{effects_tell, takes_so_many}
 use Rattle.plain_unwinds.specs.Services.{fails_unmarked}
 use Rattle.plain_stretches.specs.Standing.{IsOn}
-use Rattle.plain_stretches.specs.Stretches.{Halts, AtGoal, AtSend, AtPrimitive, AtHome, AtFull, AtEnd, Performs, IsBare, Lacks}
+use Rattle.plain_stretches.specs.Stretches.{Halts, AtGoal, AtSend, AtPrimitive, AtHome, AtFull, AtEnd, Performs}
 use Rattle.plain_stretches.proofs.Further.{run_keeps}
 use Rattle.plain_stretches.proofs.Stretches.{prints_stretch}
 use Rattle.plain_turns.specs.Asking.{node_here, place_here, cost_left}
-use Rattle.plain_turns.specs.Primitives.{IsPrimitive, PrimitivesAsk, LacksEnd, UndefinedEnd, IsOf, KnowsWords, Costs, Says, MayApply, PrimitivesMayApply, WasApplied, FullsEnd, FailuresEnd, PrimitiveTurns, AnswersTurn}
+use Rattle.plain_turns.specs.Primitives.{IsPrimitive, PrimitivesAsk, UndefinedEnd, IsOf, KnowsWords, Costs, Says, MayApply, PrimitivesMayApply, WasApplied, FullsEnd, FailuresKeep, FailuresEnd, PrimitiveTurns, AnswersTurn}
 use Rattle.plain_turns.specs.Resting.{IsReady, IsAtTrap, HasRun}
 use Rattle.plain_turns.proofs.Counting.{objects_fit}
-use Rattle.plain_turns.proofs.Onward.{rest, counted_is, rest_is, paid_here, goes_on, error_ends}
+use Rattle.plain_turns.proofs.Onward.{stopped, rest, counted_is, rest_is, paid_here, goes_on, error_ends}
 use Rattle.plain_turns.proofs.Places.{Points, performed_points, node_points, behind_place}
 
--- Why the machine is at service 3.
-data AtService (z : Sense) (h : Host) (s : State) (on : IsOn z h s) (to : MachineState) : Type 0 where
-  Bare : IsBare z h s on to → AtService z h s on to
-  Lacking : Lacks z h s on to → AtService z h s on to
-
-at_service : (z : Sense) (h : Host) (s : State) (on : IsOn z h s) (trap : ℕ) (to : MachineState) → Halts z h s on trap to → trap ≡ 3 → AtService z h s on to
-at_service z h s on trap to (AtGoal e none w) three = absurd (omega (arith, e, three))
-at_service z h s on trap to (AtSend e q) three = absurd (omega (arith, e, three))
-at_service z h s on trap to (AtPrimitive e q) three = Bare q
-at_service z h s on trap to (AtHome e q) three = absurd (omega (arith, e, three))
-at_service z h s on trap to (AtFull e q) three = absurd (omega (arith, e, three))
-at_service z h s on trap to (AtEnd e q) three = absurd (omega (arith, e, three))
+-- a primitive has led there
+pub performs_at : (z : Sense) (h : Host) (s : State) (on : IsOn z h s) (trap : ℕ) (to : MachineState) → Halts z h s on trap to → trap ≡ 3 → Performs z h s on to
+performs_at z h s on trap to (AtGoal e none w) three = absurd (omega (arith, e, three))
+performs_at z h s on trap to (AtSend e q) three = absurd (omega (arith, e, three))
+performs_at z h s on trap to (AtPrimitive e q) three = q
+performs_at z h s on trap to (AtHome e q) three = absurd (omega (arith, e, three))
+performs_at z h s on trap to (AtFull e q) three = absurd (omega (arith, e, three))
+performs_at z h s on trap to (AtEnd e q) three = absurd (omega (arith, e, three))
 
 -- two nodes of primitives that are one have the same parts
-record SameParts (name other : Name) (args more : ℕ) (handler handled : Bool) : Type 0 where
-  named : name ≡ other
-  takes : args ≡ more
-  handles : handler ≡ handled
+pub record SameParts (name other : Name) (args more : ℕ) (handler handled : Bool) : Type 0 where
+  pub named : name ≡ other
+  pub takes : args ≡ more
+  pub handles : handler ≡ handled
 
 same_parts : (name other : Name) (args more : ℕ) (implied by : Bool) (handler handled : Bool) → Some (nodes.Prim name args implied handler) ≡ Some (nodes.Prim other more by handled) → SameParts name other args more handler handled
 same_parts name other args more implied by handler handled e =
@@ -132,32 +128,32 @@ has_taken maps old new heap after cells places things made receiver word (Failur
 
 module _ (h : Host) (from : State) (target : ℕ) (out : List ℕ) (x : IsAtTrap h 3 from target out) where
   -- the names and the words of the language stay through a run
-  names_same : from.names ≡ x.state.names
-  names_same = sym (run_keeps x.done (silent from)).0 ∙ ap (λ r. r.state.names) x.runs
+  pub names_same : from.names ≡ x.state.names
+  names_same = sym (run_keeps x.done (silent from)).names ∙ ap (λ r. r.state.names) x.runs
 
   core_same : from.core ≡ x.state.core
-  core_same = sym (run_keeps x.done (silent from)).1 ∙ ap (λ r. r.state.core) x.runs
+  core_same = sym (run_keeps x.done (silent from)).core ∙ ap (λ r. r.state.core) x.runs
 
   module _ (q : Performs x.sense (with_machine h x.last) x.state x.on h.machine) where
-    abbrev message : Message
+    abbrev pub message : Message
     message = asked q.args q.implied q.handler (here_of x.state q.performed.sender q.performed.older)
 
     abbrev node : Node
     node = nodes.Prim q.name q.args q.implied q.handler
 
-    moved : Moved x.last h.machine q.performed.at x.last.memory (x.last.regs 2)
+    pub moved : Moved x.last h.machine q.performed.at x.last.memory (x.last.regs 2)
     moved = (let P : MachineState → Type 0 = λ k. Moved x.last k q.performed.at x.last.memory (x.last.regs 2) in subst P (sym q.there) q.performed.asks.moved)
 
     points : Points h (h.machine.pc + 4) x.on.body x.on.number
     points = performed_points x.sense (with_machine h x.last) x.state x.on h.machine q
 
-    node_is : node_here h ≡ Some node
+    pub node_is : node_here h ≡ Some node
     node_is = node_points h x.on.body x.on.number points ∙ q.at.node_is
 
-    parts : (name : Name) (args : ℕ) (implied handler : Bool) → node_here h ≡ Some (nodes.Prim name args implied handler) → SameParts q.name name q.args args q.handler handler
+    pub parts : (name : Name) (args : ℕ) (implied handler : Bool) → node_here h ≡ Some (nodes.Prim name args implied handler) → SameParts q.name name q.args args q.handler handler
     parts name args implied handler is = same_parts q.name name q.args args q.implied implied q.handler handler (sym node_is ∙ is)
 
-    place_is : place_of x.state q.performed.sender ≡ place_here h
+    pub place_is : place_of x.state q.performed.sender ≡ place_here h
     place_is = behind_place x.sense (with_machine h x.last) x.state x.on h.machine q.performed.sender q.performed.older q.performed.is_at.here points
 
     -- the plain cost of the state
@@ -172,19 +168,19 @@ module _ (h : Host) (from : State) (target : ℕ) (out : List ℕ) (x : IsAtTrap
       handler = q.handler;
       node_is = node_is;
       few = q.performed.few;
-      left = omega (arith, rest_is h 3 from target out x q.performed.at q.can moved, counted_is h 3 from target out x q.performed.at moved, x.left_is);
+      left = omega (arith, rest_is h from target out (stopped h 3 from target out x) q.performed.at q.can moved, counted_is h from target out (stopped h 3 from target out x) q.performed.at moved, x.left_is);
     }
 
-    -- an error that the gated step is
+    -- an error that the step is
     ends_by : (e : ErrorName) → step x.state ≡ silent (with_current (Ended_by e (place_of x.state q.performed.sender)) x.state) → (goal : ℕ) → goal ≤ 1000000000 → HasRun (fails_unmarked goal (cost_left h) e (place_here h) h) from target out
     ends_by e now goal few =
-        error_ends h 3 from target out x q.performed.at q.can moved q.performed.sender q.performed.older q.performed.is_at.here e (place_here h) (now ∙ ap (λ k. silent (with_current (Ended_by e k) x.state)) place_is) goal few
+        error_ends h from target out (stopped h 3 from target out x) q.performed.at q.can moved q.performed.sender q.performed.older q.performed.is_at.here e (place_here h) (now ∙ ap (λ k. silent (with_current (Ended_by e k) x.state)) place_is) goal few
 
     -- an error that the node is
-    errs : (e : ErrorName) → step x.state ≡ step x.state → done (here_of x.state q.performed.sender q.performed.older) node ≡ Err e → (goal : ℕ) → goal ≤ 1000000000 → HasRun (fails_unmarked goal (cost_left h) e (place_here h) h) from target out
-    errs e built is goal few =
+    errs : (e : ErrorName) → done (here_of x.state q.performed.sender q.performed.older) node ≡ Err e → (goal : ℕ) → goal ≤ 1000000000 → HasRun (fails_unmarked goal (cost_left h) e (place_here h) h) from target out
+    errs e is goal few =
         let here = here_of x.state q.performed.sender q.performed.older in
-        ends_by e (built ∙ step_at x.state q.performed.sender q.performed.older node q.performed.is_at.here q.performed.is_at.node_is ∙ ap (settled here) is) goal few
+        ends_by e (step_at x.state q.performed.sender q.performed.older node q.performed.is_at.here q.performed.is_at.node_is ∙ ap (settled here) is) goal few
 
     -- the words of the operands stand for the message
     operands : IsHeap h.maps h.machine.memory (heap_of h) x.sense.cells x.sense.places x.state.things x.sense.made × IsValue x.sense.cells x.sense.places message.receiver (h.machine.regs 8) × AreValues x.sense.cells x.sense.places message.arguments (registers_from h.machine.regs 9 q.args)
@@ -194,14 +190,14 @@ module _ (h : Host) (from : State) (target : ℕ) (out : List ℕ) (x : IsAtTrap
         subst P (sym q.there) (operands_stand z (with_machine h x.last) x.state x.on.body x.on.number q.name q.args q.implied q.handler q.at q.performed x.on.sound.stands)
 
     -- by the primitive of the node
-    module _ (p : Primitive) (args : ℕ) (o : IsOf h from p args) where
-      same : SameParts q.name o.name q.args args q.handler false
-      same = parts o.name args o.implied false o.node_is
+    module _ (p : Primitive) (args : ℕ) (handler : Bool) (o : IsOf h from p args handler) where
+      same : SameParts q.name o.name q.args args q.handler handler
+      same = parts o.name args o.implied handler o.node_is
 
       found : primitive_of (text_named x.state.names q.name.0) q.args ≡ Some p
       found = ap (λ n. primitive_of (text_named n q.name.0) q.args) (sym names_same) ∙ ap (λ (n : Name). primitive_of (text_named from.names n.0) q.args) same.named ∙ ap (primitive_of (text_named from.names o.name.0)) same.takes ∙ o.is
 
-      effect_is : effect_of x.state q.name q.args message ≡ apply x.state p message.receiver message.arguments
+      pub effect_is : effect_of x.state q.name q.args message ≡ apply x.state p message.receiver message.arguments
       effect_is = effects_tell x.state (text_named x.state.names q.name.0) q.args message.receiver message.arguments ∙ ap (λ y. applied x.state y message.receiver message.arguments) found
 
       arguments : AreValues x.sense.cells x.sense.places message.arguments (registers_from h.machine.regs 9 args)
@@ -235,50 +231,53 @@ module _ (h : Host) (from : State) (target : ℕ) (out : List ℕ) (x : IsAtTrap
           values = message.arguments;
           stand = arguments;
           takes = registers_long h.machine.regs 9 args ∙ sym (takes_so_many (text_named from.names o.name.0) args p o.is);
-          room = (let paid = paid_here h 3 from target out x q.performed.at moved in omega (arith, paid.room, paid.top, fits, costs words is));
+          room = (let paid = paid_here h from target out (stopped h 3 from target out x) q.performed.at moved in omega (arith, paid.room, paid.top, fits, costs words is));
         };
       }
 
-      full_ends : step x.state ≡ step x.state → (words : ℕ) → Costs h p words → 4194304 < h.cost + h.machine.regs 3 + words → (goal : ℕ) → goal ≤ 1000000000 → HasRun (fails_unmarked goal (cost_left h) errors.StoreFull (place_here h) h) from target out
-      full_ends built words is much goal few =
+      full_ends : (words : ℕ) → Costs h p words → 4194304 < h.cost + h.machine.regs 3 + words → (goal : ℕ) → goal ≤ 1000000000 → HasRun (fails_unmarked goal (cost_left h) errors.StoreFull (place_here h) h) from target out
+      full_ends words is much goal few =
           let s = x.state in
           let e = apply s p message.receiver message.arguments in
-          errs errors.StoreFull built
+          errs errors.StoreFull
           (done_by_effect s q.performed.sender q.performed.older q.name q.args q.implied q.handler e effect_is
           ∙ fills s q.performed.sender q.performed.older message (row_of (text_named s.names q.name.0) q.args) (handler_of q.handler (here_of s q.performed.sender q.performed.older)) e
           x.on.sound.stands.stands.within (omega (arith, much, cost_is, costs words is)))
           goal few
 
-      failure_ends : step x.state ≡ step x.state → (core : CoreWords) → KnowsWords h from.core core → (memory : Words) (heap : Heap) (e : ErrorName) → WasApplied h p args core memory heap (answers.Fails e) → (goal : ℕ) → goal ≤ 1000000000
-          → (memory ≡ h.machine.memory) × HasRun (fails_unmarked goal (cost_left h) e (place_here h) h) from target out
-      failure_ends built core k memory heap e was goal few =
+      -- what failed is the failure that the source's effect is, and has left memory as it was
+      pub refusal_is : (core : CoreWords) → KnowsWords h from.core core → (memory : Words) (heap : Heap) (e : ErrorName) → WasApplied h p args core memory heap (answers.Fails e) → (apply x.state p message.receiver message.arguments ≡ Failure e) × (memory ≡ h.machine.memory)
+      refusal_is core k memory heap e was =
           let s = x.state in
           let z = x.sense in
-          let a = refused h.maps h.machine.memory memory (heap_of h) heap z.cells z.places s.things z.made (h.machine.regs 8) e (apply s p message.receiver message.arguments)
-          (was.answers z.cells z.places z.made s message.receiver message.arguments operands.0 (known core k) operands.1 arguments) in (
-            a.1,
-            errs e built
-                (done_by_effect s q.performed.sender q.performed.older q.name q.args q.implied q.handler (Failure e) (effect_is ∙ a.0)
-                ∙ fails_bare s q.performed.sender q.performed.older message (row_of (text_named s.names q.name.0) q.args) q.handler e same.handles)
-                goal few,
-          )
+          refused h.maps h.machine.memory memory (heap_of h) heap z.cells z.places s.things z.made (h.machine.regs 8) e (apply s p message.receiver message.arguments)
+          (was.answers z.cells z.places z.made s message.receiver message.arguments operands.0 (known core k) operands.1 arguments)
 
-      answer_turns : step x.state ≡ step x.state → (core : CoreWords) → KnowsWords h from.core core → (words : ℕ) → Costs h p words → h.cost + h.machine.regs 3 + words ≤ 4194304
+      failure_ends : handler ≡ false → (core : CoreWords) → KnowsWords h from.core core → (memory : Words) (heap : Heap) (e : ErrorName) → WasApplied h p args core memory heap (answers.Fails e) → (goal : ℕ) → goal ≤ 1000000000
+          → HasRun (fails_unmarked goal (cost_left h) e (place_here h) h) from target out
+      failure_ends none core k memory heap e was goal few =
+          let s = x.state in
+          errs e
+          (done_by_effect s q.performed.sender q.performed.older q.name q.args q.implied q.handler (Failure e) (effect_is ∙ (refusal_is core k memory heap e was).0)
+          ∙ fails_bare s q.performed.sender q.performed.older message (row_of (text_named s.names q.name.0) q.args) q.handler e (same.handles ∙ none))
+          goal few
+
+      answer_turns : (core : CoreWords) → KnowsWords h from.core core → (words : ℕ) → Costs h p words → h.cost + h.machine.regs 3 + words ≤ 4194304
           → (memory : Words) (heap : Heap) (word : ℕ) → WasApplied h p args core memory heap (answers.Done word) → (line : List ℕ) → Says h p line → IsWithin memory → PrimitiveTurns h from target out memory heap words word line
-      answer_turns built core k words is fits memory heap word was line tells within =
+      answer_turns core k words is fits memory heap word was line tells within =
           let s = x.state in
           let z = x.sense in
           let host = with_machine h x.last in
           let at = q.performed.at in
           let e = apply s p message.receiver message.arguments in
-          let r = rest h 3 from target out x in
+          let r = rest h from target out (stopped h 3 from target out x) in
           let left = cost_left h - words in
           let h1 = performs r left memory heap words word h in
           let a = was.answers z.cells z.places z.made s message.receiver message.arguments operands.0 (known core k) operands.1 arguments in
           let takes = has_taken h.maps h.machine.memory memory (heap_of h) heap z.cells z.places s.things z.made (h.machine.regs 8) word e operands.0.numbered a in
           let A : MachineState → Type 0 = λ m. IsApplied z host s m memory heap (answers.Done word) e in
           let here : A h.machine = record { answers = a; outside = was.outside; within = within } in
-          let few : r ≤ 1000000000 = omega (arith, rest_is h 3 from target out x at q.can moved, x.near) in
+          let few : r ≤ 1000000000 = omega (arith, rest_is h from target out (stopped h 3 from target out x) at q.can moved, x.near) in
           let room : s.cost + cost e ≤ 4194304 = omega (arith, cost_is, fits, costs words is) in
           let d0 = answers_perform z host s x.on.body x.on.number q.name q.args q.implied q.handler q.at q.performed x.on.sound.stands q.can memory heap word e effect_is (subst A q.there here) room r left few in
           let M : MachineState → Type 0 = λ m. DoesPrint (performs r left memory heap (cost e) word (with_machine host m)) s (printed_by e) in
@@ -287,70 +286,57 @@ module _ (h : Host) (from : State) (target : ℕ) (out : List ℕ) (x : IsAtTrap
           let d : DoesPrint h1 s line = subst L (says line tells) (subst C (sym (costs words is)) (subst M (sym q.there) d0)) in
           let goal_is : word_at h1.machine.memory 0x30000000 ≡ r = (controlled memory r left within).goal_is in
           let stays : word_at h1.machine.memory 0x30000004 ≡ left = left_is memory r left within in
-          let paid0 = paid_here h 3 from target out x at moved in
+          let paid0 = paid_here h from target out (stopped h 3 from target out x) at moved in
           let paid1 : IsPaid x.start h1 = record { room = paid0.room; top = omega (arith, paid0.top, takes.top, costs words is); left = omega (arith, stays, fits) } in
-          let far : h1.steps + word_at h1.machine.memory 0x30000000 ≡ s.steps + suc r = omega (arith, goal_is, counted_is h 3 from target out x at moved) in
+          let far : h1.steps + word_at h1.machine.memory 0x30000000 ≡ s.steps + suc r = omega (arith, goal_is, counted_is h from target out (stopped h 3 from target out x) at moved) in
           let ready1 : IsReady h1 = record {
             fit = x.ready.fit;
             room = record { each = x.ready.room.each; left = x.ready.room.left; lobby = x.ready.room.lobby };
             maps = record { few = x.ready.maps.few; bodies = x.ready.maps.bodies; contexts = x.ready.maps.contexts; blocks = x.ready.maps.blocks };
           } in
-          let on = prints_stretch x.start z h1 s line r x.formed x.on.sound.runs x.on.sound.current ready1.fit ready1.maps paid1 built d far in
-          record { on = goes_on h 3 from target out x at q.can moved h1 line x.on.sound.runs x.on.sound.current ready1 on; objects = takes.next }
+          let on = prints_stretch x.start z h1 s line r x.formed x.on.sound.runs x.on.sound.current ready1.fit ready1.maps paid1 d far in
+          record { on = goes_on h from target out (stopped h 3 from target out x) at q.can moved h1 line x.on.sound.runs x.on.sound.current ready1 on; objects = takes.next }
 
--- one whose node has no handler is bare
-bare_here : (h : Host) (from : State) (target : ℕ) (out : List ℕ) (x : IsAtTrap h 3 from target out) (name : Name) (args : ℕ) (implied : Bool) → node_here h ≡ Some (nodes.Prim name args implied false)
-    → AtService x.sense (with_machine h x.last) x.state x.on h.machine → IsBare x.sense (with_machine h x.last) x.state x.on h.machine
-bare_here h from target out x name args implied is (Bare b) = b
-bare_here h from target out x name args implied is (Lacking l) = absurd (let both : true ≡ false = sym l.handled ∙ (parts h from target out x l.performs name args implied false is).handles in cc)
-
-bare_of : (h : Host) (from : State) (target : ℕ) (out : List ℕ) (x : IsAtTrap h 3 from target out) (name : Name) (args : ℕ) (implied : Bool) → node_here h ≡ Some (nodes.Prim name args implied false) → IsBare x.sense (with_machine h x.last) x.state x.on h.machine
-bare_of h from target out x name args implied is = bare_here h from target out x name args implied is (at_service x.sense (with_machine h x.last) x.state x.on 3 h.machine x.halts refl)
-
-asks_at : (h : Host) (from : State) (target : ℕ) (out : List ℕ) (x : IsAtTrap h 3 from target out) → AtService x.sense (with_machine h x.last) x.state x.on h.machine → IsPrimitive h target
-asks_at h from target out x (Bare b) = is_primitive h from target out x b.performs
-asks_at h from target out x (Lacking l) = is_primitive h from target out x l.performs
+pub performed : (h : Host) (from : State) (target : ℕ) (out : List ℕ) (x : IsAtTrap h 3 from target out) → Performs x.sense (with_machine h x.last) x.state x.on h.machine
+performed h from target out x = performs_at x.sense (with_machine h x.last) x.state x.on 3 h.machine x.halts refl
 
 pub primitives_ask : PrimitivesAsk
-primitives_ask h from target out x = asks_at h from target out x (at_service x.sense (with_machine h x.last) x.state x.on 3 h.machine x.halts refl)
+primitives_ask h from target out x = is_primitive h from target out x (performed h from target out x)
 
-lack_at : (h : Host) (from : State) (target : ℕ) (out : List ℕ) (x : IsAtTrap h 3 from target out) (name : Name) (args : ℕ) (implied : Bool) → node_here h ≡ Some (nodes.Prim name args implied true) → (goal : ℕ) → goal ≤ 1000000000
-    → AtService x.sense (with_machine h x.last) x.state x.on h.machine → HasRun (fails_unmarked goal (cost_left h) errors.NotBuilt (place_here h) h) from target out
-lack_at h from target out x name args implied is goal few (Bare b) = absurd (let both : false ≡ true = sym b.bare ∙ (parts h from target out x b.performs name args implied true is).handles in cc)
-lack_at h from target out x name args implied is goal few (Lacking l) = ends_by h from target out x l.performs errors.NotBuilt l.unbuilt goal few
-
-pub lacks_end : LacksEnd
-lacks_end h from target out x name args implied is goal few = lack_at h from target out x name args implied is goal few (at_service x.sense (with_machine h x.last) x.state x.on 3 h.machine x.halts refl)
+-- one that isn't defined
+pub unknown_here : (h : Host) (from : State) (target : ℕ) (out : List ℕ) (x : IsAtTrap h 3 from target out) (name : Name) (args : ℕ) (implied handler : Bool) → node_here h ≡ Some (nodes.Prim name args implied handler) → primitive_of (text_named from.names name.0) args ≡ None
+    → (let q = performed h from target out x in effect_of x.state q.name q.args (message h from target out x q) ≡ Failure errors.PrimitiveNotDefined)
+unknown_here h from target out x name args implied handler is none =
+    let q = performed h from target out x in
+    let s = x.state in
+    let same = parts h from target out x q name args implied handler is in
+    let not_found : primitive_of (text_named s.names q.name.0) q.args ≡ None =
+    ap (λ n. primitive_of (text_named n q.name.0) q.args) (sym (names_same h from target out x)) ∙ ap (λ (n : Name). primitive_of (text_named from.names n.0) q.args) same.named ∙ ap (primitive_of (text_named from.names name.0)) same.takes ∙ none in
+    unknown_fails s q.name q.args (message h from target out x q) not_found
 
 pub undefined_end : UndefinedEnd
 undefined_end h from target out x name args implied is none goal few =
-    let b = bare_of h from target out x name args implied is in
-    let q = b.performs in
+    let q = performed h from target out x in
     let s = x.state in
     let p = q.performed in
-    let same = parts h from target out x q name args implied false is in
-    let m = asked q.args q.implied q.handler (here_of s p.sender p.older) in
-    let not_found : primitive_of (text_named s.names q.name.0) q.args ≡ None =
-    ap (λ n. primitive_of (text_named n q.name.0) q.args) (sym (names_same h from target out x)) ∙ ap (λ (n : Name). primitive_of (text_named from.names n.0) q.args) same.named ∙ ap (primitive_of (text_named from.names name.0)) same.takes ∙ none in
-    errs h from target out x q errors.PrimitiveNotDefined b.built
-    (done_by_effect s p.sender p.older q.name q.args q.implied q.handler (Failure errors.PrimitiveNotDefined) (unknown_fails s q.name q.args m not_found)
-    ∙ fails_bare s p.sender p.older m (row_of (text_named s.names q.name.0) q.args) q.handler errors.PrimitiveNotDefined b.bare)
+    let m = message h from target out x q in
+    let bare = (parts h from target out x q name args implied false is).handles in
+    errs h from target out x q errors.PrimitiveNotDefined
+    (done_by_effect s p.sender p.older q.name q.args q.implied q.handler (Failure errors.PrimitiveNotDefined) (unknown_here h from target out x name args implied false is none)
+    ∙ fails_bare s p.sender p.older m (row_of (text_named s.names q.name.0) q.args) q.handler errors.PrimitiveNotDefined bare)
     goal few
 
 pub primitives_may_apply : PrimitivesMayApply
-primitives_may_apply h from target out x p args o core k = may_apply h from target out x (bare_of h from target out x o.name args o.implied o.node_is).performs p args o core k
+primitives_may_apply h from target out x p args handler o core k = may_apply h from target out x (performed h from target out x) p args handler o core k
 
 pub fulls_end : FullsEnd
-fulls_end h from target out x p args o words is much goal few =
-    let b = bare_of h from target out x o.name args o.implied o.node_is in
-    full_ends h from target out x b.performs p args o b.built words is much goal few
+fulls_end h from target out x p args handler o words is much goal few = full_ends h from target out x (performed h from target out x) p args handler o words is much goal few
+
+pub failures_keep : FailuresKeep
+failures_keep h from target out x p args handler o core k memory heap e was = (refusal_is h from target out x (performed h from target out x) p args handler o core k memory heap e was).1
 
 pub failures_end : FailuresEnd
-failures_end h from target out x p args o core k memory heap e was goal few =
-    let b = bare_of h from target out x o.name args o.implied o.node_is in
-    failure_ends h from target out x b.performs p args o b.built core k memory heap e was goal few
+failures_end h from target out x p args o core k memory heap e was goal few = failure_ends h from target out x (performed h from target out x) p args false o refl core k memory heap e was goal few
 
 pub answers_turn : AnswersTurn
-answers_turn h from target out x p args o core k words is fits memory heap word was line tells =
-    let b = bare_of h from target out x o.name args o.implied o.node_is in
-    answer_turns h from target out x b.performs p args o b.built core k words is fits memory heap word was line tells was.within
+answers_turn h from target out x p args handler o core k words is fits memory heap word was line tells = answer_turns h from target out x (performed h from target out x) p args handler o core k words is fits memory heap word was line tells was.within

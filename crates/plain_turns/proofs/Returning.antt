@@ -31,7 +31,7 @@ use Rattle.plain_turns.specs.Asking.{count, cost_left}
 use Rattle.plain_turns.specs.Resting.{IsReady, IsAtTrap, HasRun}
 use Rattle.plain_turns.specs.Turns.{StepsOn, ReturnsTurn}
 use Rattle.source_model.proofs.Forming.{steps_form}
-use Rattle.plain_turns.proofs.Onward.{counted_is, rest_is, cost_fits, goes_on}
+use Rattle.plain_turns.proofs.Onward.{stopped, counted_is, rest_is, cost_fits, goes_on}
 
 -- a return from a home method has led there
 goes_home : (h : Host) (trap : ℕ) (from : State) (target : ℕ) (out : List ℕ) → (x : IsAtTrap h trap from target out) → trap ≡ 4 → Halts x.sense (with_machine h x.last) x.state x.on trap h.machine → GoesHome x.sense (with_machine h x.last) x.state x.on h.machine
@@ -101,7 +101,7 @@ module _ (h : Host) (from : State) (target : ℕ) (out : List ℕ) (x : IsAtTrap
       subst P (sym q.there) (subst R (sym a.moved.stands.here) a.moved)
 
   left_is : suc goal ≡ left_of at_poll
-  left_is = rest_is h 4 from target out x h.machine.pc home.can moved
+  left_is = rest_is h from target out (stopped h 4 from target out x) h.machine.pc home.can moved
 
   few : goal ≤ 1000000000
   few = omega (arith, left_is, x.near)
@@ -120,7 +120,7 @@ module _ (h : Host) (from : State) (target : ℕ) (out : List ℕ) (x : IsAtTrap
 
   paid_there : (to : Host) → Leaves goal cost at_poll to x.state → IsPaid x.start to
   paid_there to l =
-      let fits = cost_fits h 4 from target out x h.machine.pc moved in
+      let fits = cost_fits h from target out (stopped h 4 from target out x) h.machine.pc moved in
       let same : h.machine.regs 3 ≡ x.last.regs 3 = moved.kept 3 refl in
       record { room = x.paid.room; top = omega (arith, l.top, l.settled, l.sum, x.paid.top); left = omega (arith, l.left_is, l.sum, fits, same) }
 
@@ -128,8 +128,8 @@ module _ (h : Host) (from : State) (target : ℕ) (out : List ℕ) (x : IsAtTrap
   goes : (to : Host) → IsReady to → Leaves goal cost at_poll to x.state → DoesStep x.sense to x.state → StepsOn h to from target out
   goes to ready l d =
       let low : to.current < 4 = omega (arith, l.current, x.on.sound.current) in
-      let on = steps_stretch x.start x.sense to x.state goal x.formed l.runs low ready.fit ready.maps (paid_there to l) home.built d (omega (arith, l.goal_is, l.steps_are)) in
-      subst (λ (o : List ℕ). StepsOn h to from target o) (append-nil out) (goes_on h 4 from target out x h.machine.pc home.can moved to [] l.runs low ready on)
+      let on = steps_stretch x.start x.sense to x.state goal x.formed l.runs low ready.fit ready.maps (paid_there to l) d (omega (arith, l.goal_is, l.steps_are)) in
+      subst (λ (o : List ℕ). StepsOn h to from target o) (append-nil out) (goes_on h from target out (stopped h 4 from target out x) h.machine.pc home.can moved to [] l.runs low ready on)
 
   -- the home was the oldest activation
   ends_there : (to : Host) → IsReady to → Leaves goal cost at_poll to x.state → HasAnswered to x.state → HasRun to from target out
@@ -137,7 +137,7 @@ module _ (h : Host) (from : State) (target : ℕ) (out : List ℕ) (x : IsAtTrap
       let s = x.state in
       let t = (step s).state in
       let v = has_answered a.sense to t a.word a.stands a.answered in
-      let now : step s ≡ silent t = home.built ∙ (λ i. record { state = t; out = a.silent i }) in
+      let now : step s ≡ silent t = (λ i. record { state = t; out = a.silent i }) in
       let k = target - from.steps - x.done - 1 in
       let far : target - from.steps ≡ x.done + suc k = omega (arith, left_is, x.left_is, x.counted) in
       let still : run (suc k) (silent s) ≡ printed t [] = then_run k s t now ∙ answered_rests k t v.0 v.1 in
@@ -171,7 +171,7 @@ module _ (h : Host) (from : State) (target : ℕ) (out : List ℕ) (x : IsAtTrap
 pub returns_turn : ReturnsTurn
 returns_turn h from target out x =
     let to = unwinds (target - count h - 1) (cost_left h) h in
-    let before = counted_is h 4 from target out x h.machine.pc (moved h from target out x) in
+    let before = counted_is h from target out (stopped h 4 from target out x) h.machine.pc (moved h from target out x) in
     let some = left_is h from target out x in
     record {
       left = omega (arith, before, some, x.left_is);

@@ -76,7 +76,7 @@ moved_to m to there p e mv = let P : MachineState → Type 0 = λ y. Moved m y p
 has_come : (z : Sense) (h : Host) (s : State) (on : IsOn z h s) (trap : ℕ) (to : MachineState) → Halts z h s on trap to → HasCome z h s trap to
 has_come z h s on trap to (AtGoal e none w) = Stays (λ nine. absurd (omega (arith, e, nine))) (h.machine.pc + 20) w.moved
 has_come z h s on trap to (AtSend e q) = Stays (λ nine. absurd (omega (arith, e, nine))) q.sent.at (moved_to h.machine to q.sent.asks.to q.sent.at q.there q.sent.asks.moved)
-has_come z h s on trap to (AtPrimitive e q) = let p = q.performs in Stays (λ nine. absurd (omega (arith, e, nine))) p.performed.at (moved_to h.machine to p.performed.asks.to p.performed.at p.there p.performed.asks.moved)
+has_come z h s on trap to (AtPrimitive e q) = Stays (λ nine. absurd (omega (arith, e, nine))) q.performed.at (moved_to h.machine to q.performed.asks.to q.performed.at q.there q.performed.asks.moved)
 has_come z h s on trap to (AtHome e q) = Stays (λ nine. absurd (omega (arith, e, nine))) q.asks.at (moved_to h.machine to q.asks.asks.to q.asks.at q.there q.asks.asks.moved)
 has_come z h s on trap to (AtFull e q) = Stays (λ nine. absurd (omega (arith, e, nine))) q.full.at (moved_to h.machine to q.full.full.to q.full.at q.there q.full.full.moved)
 has_come z h s on trap to (AtEnd e q) = Leaves e q

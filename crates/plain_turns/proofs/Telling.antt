@@ -93,19 +93,24 @@ accepted_as s a older node sel here is given w = by_node node given (finds_value
 accepts_at : (home : ℕ → ℕ) (s : State) (m : Message) (met new : Met) → met ≡ new → MetAccepts home s m met → MetAccepts home s m new
 accepts_at home s m met new e ok = subst (MetAccepts home s m) e ok
 
+-- A method that was found has a body which takes as many arguments as a message that is accepted; a block that it evaluates is the message's receiver.
+pub method_by : (z : Sense) (s : State) (bodies : List Body) → bodies ≡ s.bodies → (formed : IsWellFormed s) → (receiver : Option Value) (met : Met) (args : ℕ) (m : Message) → length m.arguments ≡ args → MetAccepts formed.0 s m met → ((v : Value) → receiver ≡ Some v → m.receiver ≡ v)
+    → (w name holder : ℕ) (c : BodyId) → IsMethod z s met holder c ⊎ IsEvaluated z s receiver met name holder c w → IsFoundMethod z s bodies args name holder c receiver w met
+method_by z s bodies same formed receiver met args m many accepts receives w name holder c (inl i) =
+    let ok = (accepts_at formed.0 s m met (Holds i.object (Method c)) i.met_is accepts).0 (lt-ltb i.object (length s.things) i.inside) in
+    OfObject i (subst (λ (bs : List Body). Accepts bs c.0 args None) (sym same) (subst (λ (k : ℕ). Accepts s.bodies c.0 k None) many ok))
+method_by z s bodies same formed receiver met args m many accepts receives w name holder c (inr q) =
+    let beyond = (accepts_at formed.0 s m met (Holds (length s.things) (Method c)) q.evaluates.met_is accepts).1 (le-ltb (length s.things) (length s.things) (omega arith)) in
+    let of_block = subst (BlockAccepts s.bodies formed.0 (length m.arguments)) (receives (values.Block q.block q.maker) q.receiver_is) beyond in
+    let mine = subst (λ (k : BodyId). Accepts s.bodies k.0 (length m.arguments) (Some (formed.0 q.maker))) (sym q.evaluates.body_is) of_block in
+    let here = subst (λ (bs : List Body). Accepts bs c.0 (length m.arguments) (Some (formed.0 q.maker))) (sym same) mine in
+    OfBlock (formed.0 q.maker) q (subst (λ (k : ℕ). Accepts bodies c.0 k (Some (formed.0 q.maker))) many here)
+
 pub method_told : (z : Sense) (s : State) (bodies : List Body) → bodies ≡ s.bodies → (a : Activation) (older : List Activation) (node : Node) (sel : Selector) → slice_get s.activities s.current ≡ Some (Running (a ∷ older)) → node_at (body_of s a.body) a.next ≡ node
     → selector_of node ≡ Some sel → IsWellFormed s → (w name holder : ℕ) (c : BodyId) → IsMethod z s (met_of node s a) holder c ⊎ IsEvaluated z s (begins_at node a) (met_of node s a) name holder c w → IsFoundMethod z s bodies sel.args name holder c (begins_at node a) w (met_of node s a)
-method_told z s bodies same a older node sel here is given formed w name holder c (inl m) =
+method_told z s bodies same a older node sel here is given formed w name holder c found =
     let g = accepted_as s a older node sel here is given formed in
-    let ok = (accepts_at formed.0 s g.message _ (Holds m.object (Method c)) m.met_is g.accepts).0 (lt-ltb m.object (length s.things) m.inside) in
-    OfObject m (subst (λ (bs : List Body). Accepts bs c.0 sel.args None) (sym same) (subst (λ (k : ℕ). Accepts s.bodies c.0 k None) g.many ok))
-method_told z s bodies same a older node sel here is given formed w name holder c (inr q) =
-    let g = accepted_as s a older node sel here is given formed in
-    let beyond = (accepts_at formed.0 s g.message _ (Holds (length s.things) (Method c)) q.evaluates.met_is g.accepts).1 (le-ltb (length s.things) (length s.things) (omega arith)) in
-    let of_block = subst (BlockAccepts s.bodies formed.0 (length g.message.arguments)) (g.receives (values.Block q.block q.maker) q.receiver_is) beyond in
-    let mine = subst (λ (k : BodyId). Accepts s.bodies k.0 (length g.message.arguments) (Some (formed.0 q.maker))) (sym q.evaluates.body_is) of_block in
-    let here2 = subst (λ (bs : List Body). Accepts bs c.0 (length g.message.arguments) (Some (formed.0 q.maker))) (sym same) mine in
-    OfBlock (formed.0 q.maker) q (subst (λ (k : ℕ). Accepts bodies c.0 k (Some (formed.0 q.maker))) g.many here2)
+    method_by z s bodies same formed (begins_at node a) (met_of node s a) sel.args g.message g.many g.accepts g.receives w name holder c found
 
 pub given_by : (z : Sense) (s : State) (bodies : List Body) (args name holder : ℕ) (c : BodyId) (receiver : Option Value) (w : ℕ) (met : Met) → IsFoundMethod z s bodies args name holder c receiver w met → HasBody bodies c.0
 given_by z s bodies args name holder c receiver w met (OfObject m ok) = ok.given

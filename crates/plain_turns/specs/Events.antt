@@ -8,7 +8,7 @@ use Rattle.self_terms.specs.declared.values.BodyId.{BodyId}
 use Rattle.object_maps.specs.declared.layout.Heap.{Heap}
 use Rattle.object_maps.specs.declared.maps.SlotKind.TheVariants.{Assign, Method}
 use Rattle.sparc_machine.specs.State.{MachineState}
-use Rattle.sparc_store.specs.Words.{Words, word_at}
+use Rattle.sparc_store.specs.Words.{Words}
 use Rattle.slot_lookup.specs.declared.sends.Found.{Found}
 use Rattle.slot_lookup.specs.declared.sends.Found.TheVariants.{One}
 use Rattle.source_model.specs.declared.primitives.Primitive.{Primitive}

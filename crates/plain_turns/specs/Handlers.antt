@@ -1,6 +1,6 @@
 -- Turns of primitives that fail and have a handler: the host puts a message to the handler in place of the primitive's, and what that meets answers it
 -- in the same step.
-use Rattle.std.specs.Prelude.{◌≡◌, ◌≢◌, ◌⊎◌, ⊥, ℕ, ◌+◌, ◌-◌, ◌*◌, ◌<◌, ◌≤◌, Bool, true, if◌then◌else◌, List, length, Some, None, slice_get}
+use Rattle.std.specs.Prelude.{◌≡◌, ◌≢◌, ℕ, ◌+◌, ◌-◌, ◌*◌, ◌<◌, ◌≤◌, Bool, true, if◌then◌else◌, List, length, Some, None, slice_get}
 use Rattle.self_terms.specs.declared.errors.ErrorName.{ErrorName}
 use Rattle.self_terms.specs.declared.errors.ErrorName.TheVariants as errors
 use Rattle.self_terms.specs.declared.names.Name.{Name}
@@ -14,7 +14,7 @@ use Rattle.slot_lookup.specs.declared.sends.Found.TheVariants.{One}
 use Rattle.sparc_store.specs.Words.{Words, HasWord}
 use Rattle.source_model.specs.declared.primitives.Primitive.{Primitive}
 use Rattle.source_model.specs.Names.{text_named}
-use Rattle.source_model.specs.Soundness.{body_in, HasBody}
+use Rattle.source_model.specs.Soundness.{body_in}
 use Rattle.source_model.specs.State.{State}
 use Rattle.prim_table.specs.declared.answers.CoreWords.{CoreWords}
 use Rattle.prim_table.specs.declared.answers.PrimAnswer.TheVariants as answers
@@ -32,7 +32,7 @@ use Rattle.plain_handlers.specs.Handling.{failure_name, hands_over, KnowsStrings
 use Rattle.plain_served.specs.Serving.{refusal, MayTestMark}
 use Rattle.plain_units.specs.Putting.{IsPut}
 use Rattle.plain_unwinds.specs.Services.{fails_unmarked}
-use Rattle.plain_turns.specs.Asking.{count, body_here, node_here, place_here, behind_poll, goes_back, cost_left}
+use Rattle.plain_turns.specs.Asking.{count, node_here, place_here, behind_poll, goes_back, cost_left}
 use Rattle.plain_turns.specs.Primitives.{KnowsWords, WasApplied}
 use Rattle.plain_turns.specs.Resting.{IsAtTrap, HasRun}
 use Rattle.plain_turns.specs.Turns.{StepsOn, IsThere, BeginsAgain}

@@ -1,5 +1,5 @@
 -- Turns: what each service makes of a run.
-use Rattle.std.specs.Prelude.{◌≡◌, ◌≢◌, ◌⊎◌, ℕ, ◌+◌, ◌-◌, ◌*◌, ◌^◌, ◌<◌, ◌≤◌, List, [], ◌++◌, Some, None, length, slice_get}
+use Rattle.std.specs.Prelude.{◌≡◌, ◌≢◌, ◌⊎◌, ℕ, ◌+◌, ◌-◌, ◌*◌, ◌^◌, ◌<◌, ◌≤◌, List, [], Some, None, length, slice_get}
 use Rattle.self_terms.specs.declared.errors.ErrorName.{ErrorName}
 use Rattle.self_terms.specs.declared.errors.ErrorName.TheVariants as errors
 use Rattle.self_terms.specs.declared.nodes.Node.{Node}
@@ -27,7 +27,7 @@ use Rattle.plain_served.specs.Serving.{refusal, MayTestMark}
 use Rattle.plain_units.specs.Putting.{IsPut}
 use Rattle.plain_unwinds.specs.Services.{CanUnwind, fails_unmarked, unwinds}
 use Rattle.plain_stretches.specs.Runs.{RunsTo}
-use Rattle.plain_turns.specs.Asking.{count, body_here, node_here, place_here, place_before, found_here, behind_poll, goes_back, cost_left}
+use Rattle.plain_turns.specs.Asking.{count, body_here, node_here, place_here, found_here, behind_poll, goes_back, cost_left}
 use Rattle.plain_turns.specs.Rooms.{unmade}
 use Rattle.plain_turns.specs.Resting.{Rests, IsGoing, IsAtTrap, HasRun}
 

@@ -9,5 +9,6 @@
 mod laws;
 
 pub use laws::{
-    handlers_turn, messages_turn, methods_turn, primitives_turn, returns_turn, runs_begin, runs_come, runs_end,
+    handlers_turn, messages_turn, methods_turn, primitives_turn, returns_turn, runs_begin,
+    runs_come, runs_end,
 };

@@ -17,4 +17,6 @@ mod scripts;
 #[cfg(test)]
 mod sends;
 #[cfg(test)]
+mod stacks;
+#[cfg(test)]
 mod tests;

@@ -51,6 +51,7 @@ main = ( 3 _IntAdd: 4 ).~;edit lobby~f = ( 1 )~end~jump~;script refused line 4~;
 main = ( 3 _IntAdd: 4 ).~;step~jump~;script refused line 2~;3
 main = ( 3 _IntAdd: 4 ).~;spawn main~step~;activity 1~stop at 1 line 10:21~;0
 main = ( 3 _IntAdd: 4 ).~;spawn main~run 1~units~run 9~;not built~;3
+main = ( 3 _IntAdd: 4 ).~;spawn main~run 1~stack~run 9~;activity 1~stop at 1 line 10:21~frame 1 main 10:21 self lobby [3]~done 7 at 4~;0
 main = ( 3 _IntAdd: 4 ).~;switch 1~spawn main~switch 1~switch 2~switch 0~;refused no such activity~activity 1~activity 1~refused no such activity~refused no such activity~;0
 main = ( 3 _IntAdd: 4 ).~;spawn main~spawn main~run 2~switch 1~run 9~switch 2~run 9~switch 1~step~;\
 activity 1~activity 2~stop at 2 line 10:12~activity 1~done 7 at 6~activity 2~done 7 at 8~activity 1~refused ended~;0
@@ -61,6 +62,7 @@ main = ( 3 _IntAdd: 4 ).~;spawn main~continue 2~continue 2~;activity 1~stop at 2
 main = ( 3 _IntAdd: 4 ).~;spawn main~run 3~continue 2~continue 3~;activity 1~stop at 3 line 10:23~refused past~stop at 3 line 10:23~;0
 main = ( 3 _IntAdd: 4 ).~;spawn main~continue 1000000000~continue 3~step~;activity 1~done 7 at 4~refused ended~refused ended~;0
 main = ( 3 _IntAdd: 4 ).~;spawn main~interrupt 2~step~step~step~;activity 1~stop at 2 line 10:12~stop at 3 line 10:23~done 7 at 4~refused ended~;0
+main = ( 3 _IntAdd: 4 ).~;finish 3~stack~;refused no activity~refused no activity~;0
 main = ( 3 _IntAdd: 4 ).~;units~;not built~;3
 main = ( 3 _IntAdd: 4 ).~;machine~;not built~;3
 main = ( 3 _IntAdd: 4 ).~;advisor 0~;not built~;3

@@ -3,7 +3,7 @@
 // Model: `Answers` says which text and status are right, for the words, the world's bytes and the script's.
 // Promise: with status 0 to 3 the sink took exactly that text and the status is that of the answer; with 4, 5 or 6 it
 // took a front of it. 4 comes only where a read failed, 5 only where a write did. The session that is left, exactly
-// with status 0 of a run, shows the state that plain interpretation reaches, behind the gate of what isn't built.
+// with status 0 of a run, shows the state that plain interpretation reaches.
 #![tactic(auto)]
 
 mod laws;

@@ -7,6 +7,7 @@ ghost use Rattle.session_text.specs.LineTexts.{HasRoom, line_text, refused_line}
 ghost use Rattle.plain_turns.specs.Asking.{count};
 ghost use Rattle.plain_session.specs.Commands.{is_built, transcript};
 ghost use Rattle.plain_session.specs.Sessions.{host_of, IsShown, CanCount, CountsFew};
+ghost use Rattle.plain_session.specs.Stacks.{rest_text, RestHasRoom};
 ghost use Rattle.self_debugger.specs.declared.top.Stop.TheVariants.{OutOfMemory, Write};
 ghost use Rattle.self_debugger.specs.Words.{Asks, RunWorld};
 ghost use Rattle.self_debugger.specs.WorldLines.{ok_line};
@@ -375,7 +376,21 @@ fn put_line<K: Sink>(line: &mut Line, text: &LineText, out: &mut K) -> Result<()
     Ok(())
 }
 
-// Obeys a command, whose run writes what it prints, and writes its line behind that.
+// Writes what is still to be written of a command: a line, or nothing.
+fn put_rest<K: Sink>(line: &mut Line, rest: &Option<LineText>, out: &mut K) -> Result<(), Stop>
+    requires { RestHasRoom rest.now }
+    ensures all { OnOk result (Takes (K.taken out.old) (K.taken out.new) (rest_text rest.now)) }
+    ensures front { OnErr result (TakesFront (K.taken out.old) (K.taken out.new) (rest_text rest.now)) }
+    ensures later { K.faults out.old ≤ K.faults out.new }
+    ensures write { IsErrOf result Stop.Write → Rose (K.faults out.old) (K.faults out.new) }
+{
+    match rest {
+        Some(text) => put_line(line, text, out),
+        None => Ok(()),
+    }
+}
+
+// Obeys a command, which writes all but its last line, and writes that behind the rest.
 fn obey<K: Sink>(
     session: &mut Session,
     alloc: Global,
@@ -395,7 +410,7 @@ fn obey<K: Sink>(
     ensures write { IsErrOf result Stop.Write → Rose (K.faults out.old) (K.faults out.new) }
 {
     match session.obey(alloc, command, out) {
-        Ok(text) => put_line(line, &text, out),
+        Ok(rest) => put_rest(line, &rest, out),
         Err(RunErr::Write) => Err(Stop::Write),
         Err(RunErr::OutOfMemory) => Err(Stop::OutOfMemory),
     }

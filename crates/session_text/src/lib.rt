@@ -21,7 +21,7 @@ pub use acts::{Shown, ShownAct, ValueList};
 pub use commands::{Command, PathText, Script};
 pub use laws::{commands_are_told_apart, frames_are_shown, values_are_shown};
 pub use lines::{Line, LineText, ShownValue};
-pub use rooms::frames_have_room;
+pub use rooms::{activation_has_room, frames_have_room};
 pub use scripts::{ScriptErr, read_script};
 
 #[cfg(test)]

@@ -162,6 +162,22 @@ impl Line {
         }
     }
 
+    /// Puts the line of an activation of a body, at a position from 1 for the oldest, in place of the one that was held. Takes no memory.
+    pub fn put_activation(
+        &mut self,
+        core: Core,
+        names: &Names,
+        body: &Body,
+        position: u32,
+        act: &ShownAct,
+    )
+        requires { length (frame_text core names.now body.now position act.now) ≤ 4000000 }
+        ensures { self.new ≡ frame_text core names.now body.now position act.now }
+    {
+        self.bytes.clear();
+        self.put_act(core, names, body, position, act);
+    }
+
     // More bytes of the line.
     fn put_bytes(&mut self, piece: &[u8])
         requires { length self.old + length piece.now ≤ 4200000 }

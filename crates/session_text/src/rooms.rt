@@ -129,7 +129,9 @@ fn head_is_short(core: Core, names: &Names, body: &Body, position: u32, act: &Sh
     value_is_short(core, act.receiver);
 }
 
-fn act_is_short(core: Core, names: &Names, body: &Body, position: u32, act: &ShownAct)
+/// A law: the line of an activation has room where the names of its body do: that of its slot, and those of arguments and locals together, have at most
+/// 1,950,000 bytes each. A text has 1,048,576.
+pub fn activation_has_room(core: Core, names: &Names, body: &Body, position: u32, act: &ShownAct)
     requires { HasShortNames names.now body.now }
     ensures { length (frame_text core names.now body.now position act.now) ≤ 4000000 }
 {
@@ -138,13 +140,12 @@ fn act_is_short(core: Core, names: &Names, body: &Body, position: u32, act: &Sho
     pending_is_short(core, act.pending.as_slice());
 }
 
-/// A law: the line of a frame has room where the names of its body do: that of its slot, and those of arguments and locals together, have at most
-/// 1,950,000 bytes each. A text has 1,048,576.
+/// A law: so has the line of a frame that is shown.
 pub fn frames_have_room(shown: &Shown, position: u32, core: Core, names: &Names, bodies: &BodyList)
     requires given { 0 < position }
     requires names { ActHasNames names.now bodies.now (slice_get shown.now (position - 1)) }
     ensures { ActHasRoom core names.now bodies.now position (slice_get shown.now (position - 1)) }
 {
     let act = shown.at(position);
-    act_is_short(core, names, bodies.at(act.body.0), position, act);
+    activation_has_room(core, names, bodies.at(act.body.0), position, act);
 }

@@ -11,7 +11,7 @@ invariant-loop-at g l =
     record {
       amid : IsAmid l.fn.image.world l.commands (drop l.at l.commands) l.session (taken l.fn.out) (taken l.out);
       counted : count (host_of l.session) ≤ l.at * 1000000000;
-      did : (l.session).instructions ≤ l.at * 1180591620717411303424;
-      served : (l.session).services ≤ l.at * 1073741824;
+      did : (l.session).instructions ≤ l.at * 9444732965739290427392;
+      served : (l.session).services ≤ l.at * 8589934592;
       later : faults l.fn.out ≤ faults l.out;
     }

@@ -11,5 +11,5 @@ returns-in-Some c =
     let names = c.self.inside.names in
     let n = c.args.name.0 in
     let some = c.if-name-eq0.false in
-    c.taking.ensures ∙ ap (taking c.args.args) (sym (rows_tell names c.self.inside.rows.items n (n - 1) (Some c.in-Some.prim) c.self.invariant (omega (arith, some)) (sym c.row_at.ensures ∙ c.in-Some.is)))
+    c.taking.ensures ∙ ap (taking c.args.args) (sym (rows_tell names c.self.inside.rows.items n (n - 1) (Some c.in-Some.prim) c.self.invariant.0 (omega (arith, some)) (sym c.row_at.ensures ∙ c.in-Some.is)))
     ∙ ap (λ (l : Language). primitive_of (text_named l.names n) c.args.args) c.self.view_is

@@ -36,4 +36,4 @@ pub returns-clause-led : goal.returns-clause-led
 returns-clause-led g c = went_led c.args.self.now c.self.inside.hosting c.run.new.hosting c.self.inside.walk c.run.new.walk c.self.inside.language c.self.inside.instructions c.self.inside.services (c.self.inside.instructions + c.in_ok-taken.taken.instructions) (c.self.inside.services + c.in_ok-taken.taken.services) c.self.view_is c.requires.shows c.in_ok-taken.ensures.same c.in_ok-taken.ensures.roomy c.args.steps c.in_ok-taken.taken (g.K.Sink.taken c.args.out.now) (g.K.Sink.taken c.run.new.out) c.in_ok-taken.ensures.ran refl refl
 
 pub returns-clause-rose : goal.returns-clause-rose
-returns-clause-rose g c = are_few c.args.self.now c.self.inside.hosting c.run.new.hosting c.self.inside.walk c.run.new.walk c.self.inside.language c.self.inside.instructions c.self.inside.services (c.self.inside.instructions + c.in_ok-taken.taken.instructions) (c.self.inside.services + c.in_ok-taken.taken.services) c.self.view_is c.requires.shows c.in_ok-taken.ensures.same c.in_ok-taken.ensures.roomy c.in_ok-taken.taken.instructions c.in_ok-taken.taken.services refl refl c.in_ok-taken.ensures.few.instructions c.in_ok-taken.ensures.few.services
+returns-clause-rose g c = are_few c.args.self.now c.self.inside.hosting c.run.new.hosting c.self.inside.walk c.run.new.walk c.self.inside.language c.self.inside.instructions c.self.inside.services (c.self.inside.instructions + c.in_ok-taken.taken.instructions) (c.self.inside.services + c.in_ok-taken.taken.services) c.self.view_is c.requires.shows c.in_ok-taken.ensures.same c.in_ok-taken.ensures.roomy c.in_ok-taken.taken.instructions c.in_ok-taken.taken.services refl refl (let n = c.in_ok-taken.ensures.few.instructions in omega (arith, n)) (let m = c.in_ok-taken.ensures.few.services in omega (arith, m))
