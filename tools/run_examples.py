@@ -145,6 +145,7 @@ def interpreter():
     """tools/plain.py, as a module."""
     spec = importlib.util.spec_from_file_location("plain", TOP / "tools" / "plain.py")
     module = importlib.util.module_from_spec(spec)
+    sys.dont_write_bytecode = True
     spec.loader.exec_module(module)
     return module
 
