@@ -1,14 +1,16 @@
 #!/usr/bin/env python3
 """Plain interpretation of worlds and scripts, after docs/LANGUAGE.md: one node a step, one lookup a send.
 
-usage: plain.py run WORLD < SCRIPT | plain.py check WORLD | plain.py rows FILE ...
+usage: plain.py run WORLD < SCRIPT | plain.py check WORLD | plain.py drill N | plain.py rows FILE ...
 
-It shares nothing with the crates, and is an outside reference for their tests. `rows` reads the tables of files of
-crates/rows and crates/block_rows, does each row over the core text, and tells those whose text or status differs; rows
-that say that something isn't built are left out.
+It shares nothing with the crates, and is an outside reference for their tests and for the examples. `rows` reads the
+tables of files of crates/rows and crates/block_rows, does each row over the core text, and tells those whose text or
+status differs; rows that say that something isn't built are left out. Rows of whole worlds (limits, refusals) are checked.
 
-Not here: the limits of a text but those of integers and arguments, and the commands edit, units, machine and advisor,
-which answer `not built` with status 3. Of the refusals of a text the commonest are here alone.
+An interrupt stops after just as many steps as it asks for. Three advisors are there, of which the first is present from
+the start; nothing rests on them. Not here: the commands edit, units and machine, which answer `not built` with status 3,
+and drills, which answer `not built` with status 1. Of several rules of a text that are broken at one token the first in
+order isn't always the one that is told.
 """
 import re
 import sys
@@ -18,6 +20,8 @@ PRIMS = """_IntAdd: _IntSub: _IntMul: _IntDiv: _IntMod: _IntAnd: _IntOr: _IntXor
 _VectorNew _Size _At: _At:Put: _StringPrint _IntPrint""".split()
 CORE = "nil true false integerTraits stringTraits vectorTraits blockTraits".split()
 LOWEST, HIGHEST, STORE, DEPTH = -536870912, 536870911, 4194304, 4096
+FILE, SIZE, NODES, PARTS, LOCALS, OPEN, PENDING = 1048576, 65536, 1024, 5, 64, 64, 64
+USAGE = "usage: selfdb run WORLD | check WORLD | drill N"
 
 
 class Refused(Exception):
@@ -95,7 +99,7 @@ class Tokens:
             if kind == "int":
                 if re.compile(rb"[A-Za-z_]|\.[0-9]").match(self.text, found.end()):
                     raise Refused("BadToken at " + place)
-                token.value = int(raw)
+                token.value = int(raw) if len(raw.lstrip(b"-0")) < 10 else HIGHEST + 1
                 if not LOWEST <= token.value <= HIGHEST:
                     raise Refused("IntTooWide at " + place)
             if kind == "str":
@@ -137,10 +141,24 @@ class Obj:
 
 
 class Body:
-    def __init__(self, at, outer, name):
-        self.at, self.outer, self.name, self.number = at, outer, name, None
+    """A method's or a block's body, or the slots of what may yet be an object (`owner`: holder, either, activation)."""
+
+    def __init__(self, at, outer, name, owner):
+        self.at, self.outer, self.name, self.owner, self.number = at, outer, name, owner, None
         self.args, self.locals, self.inits, self.assignable = 0, [], [], []
         self.nodes, self.places, self.has_block, self.object_alone = [], [], False, False
+        self.pending, self.count, self.beyond = 0, 0, None
+
+
+def more_pending(kind, *node):
+    """How many more values are pending behind a node."""
+    if kind in ("drop", "return", "nonlocal", "end"):
+        return -1
+    if kind in ("send", "selfsend", "resend"):
+        return (0 if kind == "send" else 1) - node[1]
+    if kind == "prim":
+        return 1 - node[1] - (not node[2]) - node[3]
+    return 0 if kind == "store" else 1
 
 
 class Nil:
@@ -148,13 +166,15 @@ class Nil:
 
 
 NIL = Nil()
+# The tokens with which code begins.
+BEGINS = ("int", "str", "name", "prim", "key", "del", "[", "(", "^")
 
 
 class Reader:
     def __init__(self, text):
         self.tokens = Tokens(text)
         self.lobby = Obj("slots")
-        self.objects, self.bodies, self.events, self.size = [self.lobby], [], [], 1
+        self.objects, self.bodies, self.events, self.size, self.nesting = [self.lobby], [], [], 1, 0
         self.slot_list(self.lobby, None, ("end",), True)
 
     def bad(self, token=None):
@@ -171,11 +191,30 @@ class Reader:
         now = self.tokens.now
         return now.kind == kind and (text is None or now.text == text)
 
+    # Limits: one more slot, object or node; one more that is open; one more local.
+    def counted(self, place):
+        if self.size == SIZE:
+            raise Refused("TooManyNodes at " + place)
+        self.size += 1
+
+    def opened(self, token):
+        if self.nesting == OPEN:
+            raise Refused("TooDeep at " + token.place)
+        self.nesting += 1
+
+    def one_more_local(self, body, token):
+        if body and body.owner != "holder":
+            body.count += 1
+            if body.count > LOCALS:
+                body.beyond = body.beyond or token.place
+                if body.owner == "activation":
+                    raise Refused("TooManyLocals at " + token.place)
+
     # Slots, to one of these tokens. They are put into an object and into a body: what has them tells itself behind them.
     def slot_list(self, owner, body, closing, is_object):
         names = set(body.locals if body else ())
         while self.tokens.now.kind not in closing:
-            self.slot(owner, body, names, is_object)
+            self.slot(owner, body, names, is_object, closing)
             if not self.sees("."):
                 if self.tokens.now.kind not in closing:
                     self.bad()
@@ -187,35 +226,37 @@ class Reader:
             raise Refused("DuplicateSlot at " + token.place)
         names.add(name)
 
-    def slot(self, owner, body, names, is_object):
+    def slot(self, owner, body, names, is_object, closing):
         first = self.tokens.now
-        self.size += 1
         if first.kind == "arg":
             if owner is self.lobby:
                 self.bad()
-            self.tokens.next()
-            self.fresh(names, first.text[1:], first)
-            if body.args == 5:
+            if body.args == PARTS:
                 raise Refused("TooManyArgs at " + first.place)
+            self.fresh(names, first.text[1:], first)
+            self.counted(first.place)
+            self.tokens.next()
             body.locals.insert(body.args, first.text[1:])
             body.inits.insert(body.args, None)
             body.assignable.insert(body.args, False)
             body.args += 1
         elif first.kind == "name":
-            self.name_slot(owner, body, names, first, is_object)
+            self.name_slot(owner, body, names, first, is_object, closing)
         elif first.kind in ("op", "key") and not first.text.startswith("_") and is_object:
             if body:
                 body.object_alone = True
-            self.message_slot(owner, names, first)
+            self.message_slot(owner, body, names, first)
         else:
             self.bad()
 
-    def name_slot(self, owner, body, names, first, is_object):
+    def name_slot(self, owner, body, names, first, is_object, closing):
         name = first.text
         if name in ("self", "resend"):
             self.bad()
-        self.tokens.next()
+        self.one_more_local(body, first)
         self.fresh(names, name, first)
+        self.counted(first.place)
+        self.tokens.next()
         kind, value = "field", NIL
         if self.sees("op", "="):
             self.tokens.next()
@@ -223,13 +264,15 @@ class Reader:
                 self.bad()
             kind, value = "const", self.contents(name, [], True, first)
         elif self.sees("op", "<-"):
-            self.tokens.next()
             self.fresh(names, name + ":", first)
+            self.tokens.next()
             value = self.contents(name, [], False, first)
         elif self.sees("op", "*") and is_object:
             self.tokens.next()
             self.take("op", "=")
             kind, value = "parent", self.contents(name, [], False, first)
+        elif self.tokens.now.kind not in (*closing, "."):
+            self.bad()
         else:
             self.fresh(names, name + ":", first)
         if isinstance(value, Body):
@@ -242,24 +285,33 @@ class Reader:
             body.assignable.append(kind == "field")
         self.events.append(("there", owner, kind, name, value, first))
 
-    def message_slot(self, owner, names, first):
+    def message_slot(self, owner, body, names, first):
         name, parts, args = "", 0, []
         while self.sees("key") and not parts or self.sees("cap") and parts or self.sees("op") and not parts:
             part = self.tokens.now
-            if parts == 5:
+            if parts == PARTS:
                 raise Refused("TooManyArgs at " + part.place)
             name += part.text
             parts += 1
+            if parts == 1:
+                self.one_more_local(body, part)
+                if part.kind == "op":
+                    self.fresh(names, name, part)
+                self.counted(part.place)
             self.tokens.next()
-            if self.sees("name") and len(args) == parts - 1:
-                if self.tokens.now.text in ("self", "resend"):
+            now = self.tokens.now
+            if now.kind == "name" and len(args) == parts - 1:
+                if now.text in ("self", "resend"):
                     self.bad()
+                if now.text in args:
+                    raise Refused("DuplicateSlot at " + now.place)
+                self.counted(now.place)
                 args.append(self.take("name").text)
             elif args:
                 self.bad()
+        if self.sees("op", "=") and first.kind == "key":
+            self.fresh(names, name, first)
         self.take("op", "=")
-        self.fresh(names, name, first)
-        self.size += len(args)
         value = self.contents(name, args, True, first, parts)
         if not isinstance(value, Body):
             self.bad(first)
@@ -278,25 +330,34 @@ class Reader:
             cell = [path, None]
             self.events.append(("follow", cell))
             return cell
-        self.take("(")
-        body, made = Body(now.at, None, name), Obj("slots", now.at)
+        if now.kind != "(":
+            self.bad()
+        self.opened(now)
+        self.tokens.next()
+        owner = "activation" if count else "either" if may_code else "holder"
+        body, made = Body(now.at, None, name, owner), Obj("slots", now.at)
         body.locals, body.args = list(args), len(args)
         body.inits, body.assignable = [None] * len(args), [False] * len(args)
         if self.sees("|"):
             self.tokens.next()
             self.slot_list(made, body, ("|",), True)
+            if self.sees("|") and count and body.args != count:
+                self.bad(first)
             self.take("|")
         if self.sees(")") and not count:
             if body.args:
                 self.bad()
+            self.counted(now.place)
+            self.nesting -= 1
             self.tokens.next()
             self.objects.append(made)
-            self.size += 1
             return made
         if body.args != count:
             self.bad(first)
-        if not may_code or body.object_alone:
+        if not may_code or body.object_alone or self.tokens.now.kind not in BEGINS:
             self.bad()
+        if body.beyond:
+            raise Refused("TooManyLocals at " + body.beyond)
         self.bodies.append(body)
         self.code(body, ")")
         return body
@@ -309,7 +370,12 @@ class Reader:
 
     # Nodes.
     def node(self, body, token, *node):
-        self.size += 1
+        body.pending += more_pending(*node)
+        if body.pending > PENDING:
+            raise Refused("TooDeep at " + token.place)
+        if len(body.nodes) == NODES:
+            raise Refused("TooManyNodes at " + token.place)
+        self.counted(token.place)
         body.nodes.append(node)
         body.places.append(token.place)
 
@@ -334,9 +400,11 @@ class Reader:
                 self.node(body, point, "drop")
             if up:
                 self.node(body, up, "return" if closing == ")" else "nonlocal")
+                self.nesting -= 1
                 self.tokens.next()
                 return
         self.node(body, self.tokens.now, "end")
+        self.nesting -= 1
         self.take(closing)
 
     def expression(self, body):
@@ -361,12 +429,14 @@ class Reader:
         first, parts = self.tokens.now, []
         if first.text.startswith("_Restart:") or first.text == "_RestartIfFail:":
             self.bad()
+        self.opened(first)
         while not parts or self.sees("cap"):
-            if len(parts) == 5:
+            if len(parts) == PARTS:
                 raise Refused("TooManyArgs at " + self.tokens.now.place)
             parts.append(self.tokens.now.text)
             self.tokens.next()
             self.expression(body)
+        self.nesting -= 1
         name = "".join(parts)
         if first.text.startswith("_"):
             handler = len(parts) > 1 and parts[-1] == "IfFail:"
@@ -423,9 +493,11 @@ class Reader:
         elif now.kind == "[":
             self.block(body)
         elif now.kind == "(":
+            self.opened(now)
             self.tokens.next()
             self.expression(body)
             self.take(")")
+            self.nesting -= 1
         elif now.kind == "name":
             found = self.local(body, now.text, False)
             if now.text == "self":
@@ -454,11 +526,13 @@ class Reader:
             self.tokens.next()
 
     def block(self, outer):
-        opening = self.take("[")
-        body = Body(opening.at, outer, "block")
+        opening = self.tokens.now
+        body = Body(opening.at, outer, "block", "activation")
         outer.has_block = True
+        self.opened(opening)
         self.node(outer, opening, "block", body)
         self.bodies.append(body)
+        self.tokens.next()
         if self.sees("|"):
             self.tokens.next()
             self.slot_list(Obj("slots"), body, ("|",), False)
@@ -479,7 +553,7 @@ class Reader:
 
 class World:
     def __init__(self, text):
-        if len(text) > 1048576:
+        if len(text) > FILE:
             raise Refused("TooLong")
         read = Reader(text)
         self.lobby, self.size = read.lobby, read.size
@@ -489,12 +563,14 @@ class World:
             body.number = number + 1
         for event in read.events:
             self.follow(event[1]) if event[0] == "follow" else self.there(*event[1:])
+        self.core = {}
         for name in CORE:
             kind, value = self.lobby.map.slots.get(name, (None, None))
+            value = self.core.get("nil") if value is NIL else value
             if kind != "const" or not isinstance(value, Obj) or value.kind != "slots":
                 raise Refused("MissingCore " + name)
+            self.core[name] = value
         self.told = len(self.objects)
-        self.core = {name: self.lobby.map.slots[name][1] for name in CORE}
         self.fixed = {}
         for text in ERRORS + PRIMS + ["undefined"]:
             self.fixed[text] = Obj("string")
@@ -573,7 +649,7 @@ class Session:
         self.world, self.out = world, out
         self.steps = self.cost = 0
         self.made = len(world.objects)
-        self.activities, self.current = [], None
+        self.activities, self.current, self.advisors = [], None, 2
 
     # Lookup: the holders and slots that a walk finds, no object asked twice.
     def own(self, at, name):
@@ -874,6 +950,11 @@ class Session:
         if name == "spawn":
             return self.out(self.spawn(word))
         number = int(word) if word else 1
+        if name == "advisor":
+            if number > self.advisors:
+                return self.out("refused no such advisor")
+            self.advisors -= number > 0
+            return self.out("advisor %d" % number)
         if name == "switch":
             if not 1 <= number <= len(self.activities):
                 return self.out("refused no such activity")
@@ -899,7 +980,7 @@ FORMS = re.compile(r"(?:(spawn) +(%s)|(switch|run|continue|interrupt|finish|advi
 
 def script_of(text):
     """The commands of a script."""
-    if len(text) > 1048576:
+    if len(text) > FILE:
         raise Refused("TooLong")
     commands, lines, at, built = [], text.decode("latin-1").split("\n"), 0, True
     while at < len(lines):
@@ -916,23 +997,35 @@ def script_of(text):
         if not form or form.group(4) and int(form.group(4)) > 1000000000:
             raise Refused("line %d" % at)
         name = form.group(1) or form.group(3) or form.group(5)
-        built = built and name not in ("units", "machine", "advisor")
+        built = built and name not in ("units", "machine")
         commands.append((name, form.group(2) or form.group(4)))
     return commands if built else None
 
 
 def answer_of(words, world, script, out):
-    """Writes the lines of a call; answers its status."""
+    """Writes the lines of a call; answers its status. `world` gives the bytes of a name, and `script` those of the script;
+    they raise OSError where these can't be read."""
+    if len(words) != 2 or words[0] not in ("run", "check", "drill") or not words[1] or words[1].startswith("-"):
+        out(USAGE)
+        return 1
+    if words[0] == "drill":
+        is_number = re.fullmatch("[1-9][0-9]{0,3}", words[1]) and int(words[1]) <= 4000
+        out("not built" if is_number else USAGE)
+        return 1
     try:
-        built = World(world)
+        built = World(world(words[1]))
+        if words[0] == "check":
+            out("ok %d objects %d bodies size %d" % (built.told, len(built.bodies), built.size))
+            return 0
+    except OSError:
+        return 4
     except Refused as refused:
         out("world refused %s" % refused)
         return 2
-    if words == "check":
-        out("ok %d objects %d bodies size %d" % (built.told, len(built.bodies), built.size))
-        return 0
     try:
         commands = script_of(script())
+    except OSError:
+        return 4
     except Refused as refused:
         out("script refused %s" % refused)
         return 3
@@ -958,11 +1051,25 @@ def tables(text):
 def transcript(core, row):
     """The fields of a row, and the lines and the status that its world and script come to. A check has no script."""
     fields, lines = row.replace("~", "\n").split(";"), []
-    if len(fields) == 3:
-        status = answer_of("check", core + fields[0].encode(), None, lines.append)
-    else:
-        status = answer_of("run", core + fields[0].encode(), fields[1].encode, lines.append)
+    word = "check" if len(fields) == 3 else "run"
+    status = answer_of((word, "row"), lambda name: core + fields[0].encode(), fields[1].encode, lines.append)
     return fields, lines, status
+
+
+def world_of(fields):
+    """The whole world of a row of limits: its front, its piece so many times, what stands behind, and its line."""
+    front, piece, times, middle, closing, tail, line = fields
+    marks = piece.count("#")
+    turns = (piece.replace("#" * marks, "%0*d" % (marks, k)) if marks else piece for k in range(int(times)))
+    return front + "".join(turns) + middle + closing * int(times) + tail, line
+
+
+def check_row(row):
+    """The line of the check of a row that has a whole world, and the line that its world comes to; or none."""
+    fields, lines = row.replace("~", "\n").split(";"), []
+    world, line = world_of(fields) if len(fields) == 7 else fields
+    answer_of(("check", "row"), lambda name: world.encode(), None, lines.append)
+    return ("ok " if re.match("[0-9]", line) else "world refused ") + line, lines[0]
 
 
 def rows(core, files):
@@ -970,6 +1077,13 @@ def rows(core, files):
     for file in files:
         for name, table in tables(open(file).read()):
             for row in table.split("\n"):
+                if row.count(";") in (1, 6):
+                    total += 1
+                    wanted, line = check_row(row)
+                    if line != wanted:
+                        wrong += 1
+                        print("%s %s: %s\n  gives %s" % (file, name, row, line))
+                    continue
                 if row.count(";") not in (2, 3) or "notBuilt" in row or "not built" in row:
                     left += 1
                     continue
@@ -988,13 +1102,16 @@ def main():
         top = __file__.rsplit("/", 2)[0] if "/" in __file__ else ".."
         core = open(top + "/examples/add.self", "rb").read().replace(b"main = ( 3 _IntAdd: 4 ).\n", b"")
         return rows(core, sys.argv[2:])
-    if len(sys.argv) != 3 or sys.argv[1] not in ("run", "check"):
+    if len(sys.argv) == 1:
         print(__doc__)
         return 1
-    with open(sys.argv[2], "rb") as file:
-        world = file.read()
+
+    def read(name):
+        with open(name, "rb") as file:
+            return file.read()
+
     write = sys.stdout.buffer
-    return answer_of(sys.argv[1], world, sys.stdin.buffer.read, lambda line: write.write(line.encode("latin-1") + b"\n"))
+    return answer_of(sys.argv[1:], read, sys.stdin.buffer.read, lambda line: write.write(line.encode("latin-1") + b"\n"))
 
 
 if __name__ == "__main__":

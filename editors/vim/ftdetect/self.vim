@@ -1,0 +1,2 @@
+" World files of selfdb.
+autocmd BufRead,BufNewFile *.self setfiletype self
