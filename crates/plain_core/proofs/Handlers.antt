@@ -1,6 +1,6 @@
 -- Primitives that fail, as turns.
 use Rattle.std.proofs.Common.{◌≡◌, ◌≢◌, ℕ, ◌+◌, ◌-◌, ◌*◌, ◌<◌, ◌≤◌, List, refl, ◌∙◌, ap, sym, subst, arith}
-use Rattle.std.specs.Prelude.{Bool, true, false, Option, Some, None, option_map, slice_get, length}
+use Rattle.std.specs.Prelude.{Bool, true, false, Some, None, slice_get, length}
 use Rattle.std.proofs.lemmas.Option.{same_Some}
 use Rattle.self_terms.specs.declared.errors.ErrorName.{ErrorName}
 use Rattle.self_terms.specs.declared.errors.ErrorName.TheVariants as errors
@@ -8,19 +8,15 @@ use Rattle.self_terms.specs.declared.names.Name.{Name}
 use Rattle.self_terms.specs.declared.nodes.Node.TheVariants as nodes
 use Rattle.self_terms.specs.declared.nodes.Place.{Place}
 use Rattle.self_terms.specs.declared.values.BodyId.{BodyId}
-use Rattle.object_maps.specs.declared.layout.Heap.{Heap}
 use Rattle.object_maps.specs.declared.maps.SlotKind.TheVariants.{Field, Assign, Method}
 use Rattle.slot_lookup.specs.declared.sends.Found.{Found}
 use Rattle.slot_lookup.specs.declared.sends.Found.TheVariants.{One}
 use Rattle.sparc_store.specs.Words.{Words, HasWord}
 use Rattle.sparc_machine.specs.State.{IsWhole}
-use Rattle.source_model.specs.declared.primitives.Primitive.{Primitive}
 use Rattle.source_model.specs.Names.{text_named}
 use Rattle.source_model.specs.Primitives.{error_string, row_of, row_string}
 use Rattle.source_model.specs.Soundness.{body_in}
 use Rattle.source_model.specs.State.{State}
-use Rattle.prim_table.specs.declared.answers.CoreWords.{CoreWords}
-use Rattle.prim_table.specs.declared.answers.PrimAnswer.TheVariants as answers
 use Rattle.plain_words.specs.Going.{At}
 use Rattle.plain_words.specs.Putting.{Apart}
 use Rattle.plain_words.specs.Translating.{CanTranslate}
@@ -36,18 +32,16 @@ use Rattle.plain_units.specs.Putting.{IsPut}
 use Rattle.plain_unwinds.specs.Services.{CanUnwind, fails_unmarked}
 use Rattle.plain_turns.specs.Asking.{count, cost_left, node_here, place_here, goes_back}
 use Rattle.plain_turns.specs.Events.{Serves, Meets, Answers, Calls, Puts, Misses, Refuses, Fails as FailsAt, Lacks, Hands}
-use Rattle.plain_turns.specs.Handlers.{Fails, Undefined, Applied, FailsHandled, IsHandedOver, MeetsMethod, behind_primitive, found_there, handed}
+use Rattle.plain_turns.specs.Handlers.{Fails, Undefined, Applied, IsHandedOver, MeetsMethod, behind_primitive, found_there}
 use Rattle.plain_handlers.specs.Handling.{failure_name}
-use Rattle.plain_turns.specs.Primitives.{KnowsWords, WasApplied, IsOf}
 use Rattle.plain_turns.specs.Resting.{IsAtTrap, HasRun}
 use Rattle.plain_turns.specs.Turns.{IsThere}
 use Rattle.plain_turns.proofs.Handlers.{failures_ask, handlers_are_read, handlers_assign_nothing, handlers_answer, handlers_miss, handlers_meet_methods}
 use Rattle.plain_turns.proofs.Primitives.{undefined_end, failures_end}
 use Rattle.plain_core.specs.Handing.{FailsBy, HasFailed, with_message, found_by_message}
 use Rattle.plain_core.specs.Language.{Language, IsSpoken}
-use Rattle.plain_core.specs.Turning.{StandsAt, Quiet, IsKnown, on, again, ended}
+use Rattle.plain_core.specs.Turning.{StandsAt, Quiet, on, again, ended}
 use Rattle.plain_core.specs.declared.handing.Failure.{Failure}
-use Rattle.plain_core.specs.declared.turning.Turn.{Turn}
 use Rattle.plain_core.specs.declared.turning.Turn.TheVariants as turns
 use Rattle.plain_core.proofs.Serving.{quietly, quiet_as, told, next_aligned}
 use Rattle.plain_core.proofs.Walkable.{ends_handed}

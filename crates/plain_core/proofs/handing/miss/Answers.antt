@@ -1,4 +1,3 @@
-use Rattle.std.proofs.Common.{arith}
 use Rattle.plain_host.specs.Hosted.{host}
 use Rattle.plain_core.proofs.Handlers.{handed_over, told_there, missed}
 use Rattle.plain_core.proofs.handing.miss.Goals as goal

@@ -1,7 +1,6 @@
-use Rattle.std.proofs.Common.{ap, arith}
+use Rattle.std.proofs.Common.{arith}
 use Rattle.plain_host.specs.Hosted.{host}
-use Rattle.plain_runs.specs.Host.{Host}
-use Rattle.plain_core.proofs.Handlers.{handed_over, told_there, body_given, within_there, translates_there, room_there, back_there, unit_put}
+use Rattle.plain_core.proofs.Handlers.{handed_over, body_given, within_there, translates_there, room_there, back_there, unit_put}
 use Rattle.plain_core.proofs.handing.put.Goals as goal
 
 pub hand_over-requires : goal.hand_over-requires

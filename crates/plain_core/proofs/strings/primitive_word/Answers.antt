@@ -2,8 +2,8 @@ use Rattle.std.proofs.Common.{◌≡◌, ℕ, ◌+◌, ◌∙◌, ap, sym, subst
 use Rattle.std.specs.Prelude.{Option, Some, option_map, slice_get}
 use Rattle.source_model.specs.declared.primitives.Primitive.{Primitive}
 use Rattle.source_model.specs.Names.{text_named}
-use Rattle.source_model.specs.Primitives.{row_of, row_string}
-use Rattle.plain_prims.specs.Rows.{primitive_of, row_number}
+use Rattle.source_model.specs.Primitives.{row_string}
+use Rattle.plain_prims.specs.Rows.{row_number}
 use Rattle.plain_prims.proofs.Rows.{names_tell}
 use Rattle.plain_host.specs.Hosted.{host}
 use Rattle.plain_core.proofs.strings.primitive_word.Goals as goal

@@ -1,4 +1,4 @@
-use Rattle.std.proofs.Common.{◌≡◌, ℕ, ◌-◌, ◌≤◌, ◌∙◌, ap, sym, subst, arith}
+use Rattle.std.proofs.Common.{◌≡◌, ℕ, ◌-◌, ◌≤◌, ap, sym, subst, arith}
 use Rattle.std.specs.Prelude.{Some}
 use Rattle.self_terms.specs.declared.nodes.Node.TheVariants as nodes
 use Rattle.prim_table.specs.declared.answers.PrimAnswer.TheVariants as answers
