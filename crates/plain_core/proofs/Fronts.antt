@@ -37,7 +37,7 @@ takes_more old None (Some zs) xs ys a b = absurd b
 takes_more None (Some ws) (Some zs) xs ys a b = absurd a
 takes_more (Some vs) (Some ws) (Some zs) xs ys a b = b ∙ ap (λ (l : List ℕ). l ++ ys) a ∙ then_more vs xs ys
 
--- A run behind the gate that was reached by so many steps goes on to a front of what more steps print.
+-- A run that was reached by so many steps goes on to a front of what more steps print.
 pub goes_further : (done more all : ℕ) (from state : State) (out : List ℕ) → run done (silent from) ≡ printed state out → all ≡ done + more → (rest : List ℕ) × ((run all (silent from)).out ≡ out ++ rest)
 goes_further done more all from state out runs is =
     let r = run more (silent state) in

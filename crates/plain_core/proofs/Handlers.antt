@@ -1,27 +1,25 @@
 -- Primitives that fail, as turns.
 use Rattle.std.proofs.Common.{◌≡◌, ◌≢◌, ℕ, ◌+◌, ◌-◌, ◌*◌, ◌<◌, ◌≤◌, List, refl, ◌∙◌, ap, sym, subst, arith}
-use Rattle.std.specs.Prelude.{Bool, true, false, Option, Some, None, option_map, slice_get, length}
+use Rattle.std.specs.Prelude.{Bool, true, false, Some, None, slice_get, length}
+use Rattle.std.proofs.lemmas.Option.{same_Some}
 use Rattle.self_terms.specs.declared.errors.ErrorName.{ErrorName}
 use Rattle.self_terms.specs.declared.errors.ErrorName.TheVariants as errors
 use Rattle.self_terms.specs.declared.names.Name.{Name}
 use Rattle.self_terms.specs.declared.nodes.Node.TheVariants as nodes
 use Rattle.self_terms.specs.declared.nodes.Place.{Place}
 use Rattle.self_terms.specs.declared.values.BodyId.{BodyId}
-use Rattle.object_maps.specs.declared.layout.Heap.{Heap}
 use Rattle.object_maps.specs.declared.maps.SlotKind.TheVariants.{Field, Assign, Method}
 use Rattle.slot_lookup.specs.declared.sends.Found.{Found}
 use Rattle.slot_lookup.specs.declared.sends.Found.TheVariants.{One}
 use Rattle.sparc_store.specs.Words.{Words, HasWord}
 use Rattle.sparc_machine.specs.State.{IsWhole}
-use Rattle.source_model.specs.declared.primitives.Primitive.{Primitive}
 use Rattle.source_model.specs.Names.{text_named}
 use Rattle.source_model.specs.Primitives.{error_string, row_of, row_string}
 use Rattle.source_model.specs.Soundness.{body_in}
 use Rattle.source_model.specs.State.{State}
-use Rattle.prim_table.specs.declared.answers.CoreWords.{CoreWords}
-use Rattle.prim_table.specs.declared.answers.PrimAnswer.TheVariants as answers
 use Rattle.plain_words.specs.Going.{At}
 use Rattle.plain_words.specs.Putting.{Apart}
+use Rattle.plain_words.specs.Translating.{CanTranslate}
 use Rattle.plain_words.specs.Units.{unit_code}
 use Rattle.plain_runs.specs.Host.{Host}
 use Rattle.plain_runs.specs.Services.{data_answers, calls, with_unit, next_unit}
@@ -31,24 +29,31 @@ use Rattle.plain_answers.specs.Whole.{whole}
 use Rattle.plain_prims.specs.Rows.{primitive_of}
 use Rattle.plain_served.specs.Serving.{refusal, MayTestMark}
 use Rattle.plain_units.specs.Putting.{IsPut}
-use Rattle.plain_unwinds.specs.Services.{fails_unmarked}
+use Rattle.plain_unwinds.specs.Services.{CanUnwind, fails_unmarked}
 use Rattle.plain_turns.specs.Asking.{count, cost_left, node_here, place_here, goes_back}
 use Rattle.plain_turns.specs.Events.{Serves, Meets, Answers, Calls, Puts, Misses, Refuses, Fails as FailsAt, Lacks, Hands}
-use Rattle.plain_turns.specs.Handlers.{Fails, Undefined, Applied, FailsHandled, IsHandedOver, MeetsMethod, behind_primitive, found_there, handed}
+use Rattle.plain_turns.specs.Handlers.{Fails, Undefined, Applied, IsHandedOver, MeetsMethod, behind_primitive, found_there}
 use Rattle.plain_handlers.specs.Handling.{failure_name}
-use Rattle.plain_turns.specs.Primitives.{KnowsWords, WasApplied, IsOf}
 use Rattle.plain_turns.specs.Resting.{IsAtTrap, HasRun}
 use Rattle.plain_turns.specs.Turns.{IsThere}
 use Rattle.plain_turns.proofs.Handlers.{failures_ask, handlers_are_read, handlers_assign_nothing, handlers_answer, handlers_miss, handlers_meet_methods}
 use Rattle.plain_turns.proofs.Primitives.{undefined_end, failures_end}
 use Rattle.plain_core.specs.Handing.{FailsBy, HasFailed, with_message, found_by_message}
 use Rattle.plain_core.specs.Language.{Language, IsSpoken}
-use Rattle.plain_core.specs.Turning.{StandsAt, Quiet, IsKnown, on, again, ended}
+use Rattle.plain_core.specs.Turning.{StandsAt, Quiet, on, again, ended}
 use Rattle.plain_core.specs.declared.handing.Failure.{Failure}
-use Rattle.plain_core.specs.declared.turning.Turn.{Turn}
 use Rattle.plain_core.specs.declared.turning.Turn.TheVariants as turns
-use Rattle.plain_core.proofs.Performing.{known_to}
-use Rattle.plain_core.proofs.Serving.{quietly, quiet_as, next_aligned}
+use Rattle.plain_core.proofs.Serving.{quietly, quiet_as, told, next_aligned}
+use Rattle.plain_core.proofs.Walkable.{ends_handed}
+
+-- What is so where a message to a handler stands in the outs.
+pub record AtMessage (g : Host) (target : ℕ) : Type 0 where
+  pub running : g.current < length g.statuses
+  pub near : count g ≤ target + 1
+  pub sums : g.cost + g.machine.regs 3 ≤ 4194304
+  pub ends : CanUnwind g
+  pub on : g.machine.npc + 4 < 4294967296
+  pub low : g.machine.pc + 8 < 4294967296
 
 -- Why a primitive fails.
 
@@ -103,6 +108,24 @@ module _ (l : Language) (h : Host) (target room : ℕ) (f : Failure) (at : Stand
   miss_served e found = quietly l 3 h _ target turns.Ended (hands _ (Misses 0 (cost_left h) e found)) refl
       (λ from out spoken x. ended (handlers_miss h from target out room x fits f.name f.args f.error f.primitive (failed from spoken) 0 e (omega arith) (met_in from spoken (λ (q : Found). error_of q ≡ Some e) found)))
 
+  failed_same : (goal cost : ℕ) (e : ErrorName) (place : Place) (y : Host) → cost ≡ cost_left h → place ≡ place_here h → y ≡ with_message f h → fails_unmarked goal cost e place y ≡ fails_unmarked goal (cost_left h) e (place_here h) (with_message f h)
+  failed_same goal cost e place y q r k = ap (λ (k : ℕ). fails_unmarked goal k e place y) q ∙ ap (λ (p : Place). fails_unmarked goal (cost_left h) e p y) r ∙ ap (λ (x : Host). fails_unmarked goal (cost_left h) e (place_here h) x) k
+
+  -- behind the message the host is this
+  module _ (g : Host) (is : g ≡ with_message f h) where
+    pub told_there : AtMessage g target
+    told_there =
+        let t = told l h 3 target at in
+        let P : Host → Type 0 = λ y. AtMessage y target in
+        subst P (sym is) (record { running = t.running; near = t.near; sums = t.sums; ends = ends_handed f.args f.error f.primitive h (t.ends (λ (e : 3 ≡ 9). absurd (omega (arith, e)))); on = t.on (λ (e : 3 ≡ 9). absurd (omega (arith, e))); low = t.low })
+
+    pub answered : (to : Host) (left cost word : ℕ) → to ≡ data_answers (left - 1) cost word g → left ≡ target - count h → cost ≡ cost_left h → data_word (whole (with_message f h)) (found_by_message l room f h) ≡ Some word → Quiet l 3 h to target turns.On
+    answered to left cost word e p q found =
+        quiet_as l 3 h _ to target turns.On turns.On (e ∙ ap (λ (k : ℕ). data_answers (k - 1) cost word g) p ∙ ap (λ (k : ℕ). data_answers (target - count h - 1) k word g) q ∙ ap (λ (y : Host). data_answers (target - count h - 1) (cost_left h) word y) is) refl (data_served word found)
+
+    pub missed : (to : Host) (cost : ℕ) (place : Place) (e : ErrorName) → to ≡ fails_unmarked 0 cost e place g → cost ≡ cost_left h → place ≡ place_here h → error_of (found_by_message l room f h) ≡ Some e → Quiet l 3 h to target turns.Ended
+    missed to cost place e is_to q r found = quiet_as l 3 h _ to target turns.Ended turns.Ended (is_to ∙ failed_same 0 cost e place g q r is) refl (miss_served e found)
+
   pub field_there : (holder place : ℕ) → found_by_message l room f h ≡ One holder (Field place) → HasWord (holder + 7 + 4 * place)
   field_there holder place found =
       handlers_are_read h at.from target at.out room at.at fits f.name f.args f.error f.primitive (failed at.from at.spoken) holder place (met_in at.from at.spoken (λ (q : Found). q ≡ One holder (Field place)) found)
@@ -135,13 +158,60 @@ module _ (l : Language) (h : Host) (target room : ℕ) (f : Failure) (at : Stand
     unit_served memory none put = quietly l 3 h _ target turns.On (hands _ (Puts (target - count h) (cost_left h) holder (behind_primitive f.name f.args) c memory found put)) refl
         (λ from out spoken x. again ((method_met from out spoken x).put none memory put))
 
-    -- the host behind the message
-    module _ (g : Host) (is : g ≡ with_message f h) where
-      pub entry_fits : (entry : ℕ) → slice_get h.entries (c.0 - 1) ≡ Some entry → entry + 4 < 4294967296
-      entry_fits entry there = let m = method_there in let same : Some m.entry ≡ Some entry = sym m.entry_is ∙ there in subst (λ (k : ℕ). k + 4 < 4294967296) (let k : m.entry ≡ entry = cc in k) m.low
+    pub body_given : 0 < c.0
+    body_given = method_there.body.0
 
-      pub body_given : 0 < c.0
-      body_given = method_there.body.0
+    pub entry_fits : (entry : ℕ) → slice_get h.entries (c.0 - 1) ≡ Some entry → entry + 4 < 4294967296
+    entry_fits entry there = let m = method_there in subst (λ (k : ℕ). k + 4 < 4294967296) (same_Some m.entry entry (sym m.entry_is ∙ there)) m.low
+
+    pub unit_fits : slice_get h.entries (c.0 - 1) ≡ Some 0 → next_unit h + 4 * length (unit_code h.references (body_in h.bodies c.0)) ≤ 0x12000000
+    unit_fits none = met_here.fits none
+
+    -- behind the message the host is this
+    module _ (g : Host) (is : g ≡ with_message f h) where
+      pub translates_there : CanTranslate (body_in g.bodies c.0)
+      translates_there = subst (λ (y : Host). CanTranslate (body_in y.bodies c.0)) (sym is) method_there.translates
+
+      pub within_there : c.0 ≤ length g.bodies
+      within_there = subst (λ (y : Host). c.0 ≤ length y.bodies) (sym is) method_there.body.1
 
       pub mark_there : (entry : ℕ) → slice_get h.entries (c.0 - 1) ≡ Some entry → entry ≢ 0 → MayTestMark g c.0
       mark_there entry there some = subst (λ (y : Host). MayTestMark y c.0) (sym is) (met_here.mark entry there some)
+
+      pub room_there : slice_get h.entries (c.0 - 1) ≡ Some 0 → next_unit g + 4 * length (unit_code g.references (body_in g.bodies c.0)) ≤ 0x12000000
+      room_there none = subst (λ (y : Host). next_unit y + 4 * length (unit_code y.references (body_in y.bodies c.0)) ≤ 0x12000000) (sym is) (unit_fits none)
+
+      pub called : (to : Host) (entry left cost : ℕ) → to ≡ calls left cost entry holder g → left ≡ target - count h → cost ≡ cost_left h → slice_get h.entries (c.0 - 1) ≡ Some entry → entry ≢ 0 → refusal g c.0 ≡ None → Quiet l 3 h to target turns.On
+      called to entry left cost e p q there some through =
+          quiet_as l 3 h _ to target turns.On turns.On (e ∙ ap (λ (k : ℕ). calls k cost entry holder g) p ∙ ap (λ (k : ℕ). calls (target - count h) k entry holder g) q ∙ ap (λ (y : Host). calls (target - count h) (cost_left h) entry holder y) is) refl
+          (call_served entry there some (ap (λ (y : Host). refusal y c.0) (sym is) ∙ through))
+
+      pub refused : (to : Host) (entry cost : ℕ) (place : Place) (e : ErrorName) → to ≡ fails_unmarked 0 cost e place g → cost ≡ cost_left h → place ≡ place_here h → slice_get h.entries (c.0 - 1) ≡ Some entry → entry ≢ 0 → refusal g c.0 ≡ Some e → Quiet l 3 h to target turns.Ended
+      refused to entry cost place e is_to q r there some why =
+          quiet_as l 3 h _ to target turns.Ended turns.Ended (is_to ∙ failed_same 0 cost e place g q r is) refl (refusal_served entry e there some (ap (λ (y : Host). refusal y c.0) (sym is) ∙ why))
+
+      module _ (mid : Host) (none : slice_get h.entries (c.0 - 1) ≡ Some 0) (unit : mid ≡ with_unit c.0 mid.machine.memory g) (code : At mid.machine.memory (next_unit g) (unit_code g.references (body_in g.bodies c.0))) (apart : Apart g.machine.memory mid.machine.memory (next_unit g) (length (unit_code g.references (body_in g.bodies c.0)))) (whole_now : IsWhole mid.machine) where
+        is_put : IsPut g c.0 mid.machine.memory
+        is_put = record {
+          given = method_there.body.0;
+          known = within_there;
+          none = subst (λ (y : Host). slice_get y.entries (c.0 - 1) ≡ Some 0) (sym is) none;
+          region = record { aligned = next_aligned g; from = omega arith; to = room_there none };
+          code = code;
+          apart = apart;
+          within = whole_now.memory_within;
+        }
+
+        pub back_there : behind_primitive f.name f.args ≤ mid.machine.pc
+        back_there =
+            let low = subst (λ (y : Host). behind_primitive f.name f.args ≤ y.machine.pc) (sym is) handed_over.back in
+            subst (λ (y : Host). behind_primitive f.name f.args ≤ y.machine.pc) (sym unit) low
+
+        pub unit_put : (to : Host) (left cost back : ℕ) → to ≡ goes_back back left cost mid → left ≡ target - count h → cost ≡ cost_left h → back ≡ behind_primitive f.name f.args → Quiet l 3 h to target turns.On
+        unit_put to left cost back e p q b =
+            let memory = mid.machine.memory in
+            let far = behind_primitive f.name f.args in
+            let put : IsPut (with_message f h) c.0 memory = subst (λ (y : Host). IsPut y c.0 memory) is is_put in
+            let moved : goes_back back left cost mid ≡ goes_back far (target - count h) (cost_left h) (with_unit c.0 memory (with_message f h))
+            = ap (λ (k : ℕ). goes_back k left cost mid) b ∙ ap (λ (k : ℕ). goes_back far k cost mid) p ∙ ap (λ (k : ℕ). goes_back far (target - count h) k mid) q ∙ ap (λ (y : Host). goes_back far (target - count h) (cost_left h) y) (unit ∙ ap (λ (y : Host). with_unit c.0 memory y) is) in
+            quiet_as l 3 h _ to target turns.On turns.On (e ∙ moved) refl (unit_served memory none put)

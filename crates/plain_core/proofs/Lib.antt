@@ -3,9 +3,14 @@ pub mod Keeping
 pub mod Fronts
 pub mod Serving
 pub mod Performing
-pub mod Finding
+pub mod Walkable
 pub mod Handlers
 pub mod Joining
 pub mod Rounds
 pub mod Births
 pub mod Leading
+pub mod Onward
+pub mod Counting
+pub mod Spending
+pub mod Depths
+pub mod Youngest

@@ -242,7 +242,7 @@ module _ (l : Language) (h : Host) (target : ℕ) (at : StandsAt l h 3 target) w
 
       -- it was applied, and has failed
       pub fails_applied : (memory : Words) (heap : Heap) (e : ErrorName) → WasApplied h p args core memory heap (answers.Fails e) → FailsBy l h name args e
-      fails_applied memory heap e was = λ from spoken. Applied p core memory heap e (of_this from spoken).is (known_to from spoken) was
+      fails_applied memory heap e was = λ from spoken. Applied p core memory heap e (ap (λ (ns : List (List ℕ)). primitive_of (text_named ns name.0) args) spoken.names ∙ k.is) (known_to from spoken) was
 
       -- it was applied, and left this host
       module _ (g : Host) (heap : Heap) (is : g ≡ with_machine h (record h.machine { memory = g.machine.memory })) where

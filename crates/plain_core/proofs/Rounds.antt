@@ -40,7 +40,7 @@ still_room h to room n w le = let e = ap (λ (y : Host). y.next) w.is in omega (
 
 -- How many turns are left at most: a step or a body without a unit each; and each body that has none needs room for one.
 
-unmade_fits : (es : List ℕ) (xs : List Body) → length es ≡ length xs → 40 * unmade es ≤ unput es xs
+pub unmade_fits : (es : List ℕ) (xs : List Body) → length es ≡ length xs → 40 * unmade es ≤ unput es xs
 unmade_fits [] [] e = omega arith
 unmade_fits [] (x ∷ xs) e = omega arith
 unmade_fits (e ∷ es) [] f = absurd (omega (arith, f))

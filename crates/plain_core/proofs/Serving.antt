@@ -195,7 +195,7 @@ module _ {l : Language} {h to : Host} {target : ℕ} where
 aligned_by : (k : ℕ) → (0x10000400 + 4 * k) % 4 ≡ 0
 aligned_by k = omega arith
 
-next_aligned : (h : Host) → next_unit h % 4 ≡ 0
+pub next_aligned : (h : Host) → next_unit h % 4 ≡ 0
 next_aligned h = aligned_by (length h.points)
 
 pub back_is : (l : Language) (h : Host) (target room back : ℕ) (at : StandsAt l h 1 target) (fits : h.next ≤ room) → ((s : Selector) → option_and_then selector_of (node_here h) ≡ Some s → back ≡ behind_poll s.args) → back ≡ behind_poll (asked l h target room at fits).selector.args

@@ -5,3 +5,4 @@ pub mod Handing
 pub mod Running
 pub mod Spawning
 pub mod Leading
+pub mod Finishing

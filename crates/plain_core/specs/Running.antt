@@ -1,5 +1,5 @@
 -- A run of so many steps.
-use Rattle.std.specs.Prelude.{◌≡◌, ℕ, ◌+◌, ◌^◌, ◌≤◌, List, Option, Some, slice_get}
+use Rattle.std.specs.Prelude.{◌≡◌, ℕ, ◌+◌, ◌*◌, ◌^◌, ◌≤◌, List, Option, Some, slice_get}
 use Rattle.io_ports.specs.Causes.{Takes, TakesFront}
 use Rattle.source_model.specs.State.{State, silent}
 use Rattle.source_model.specs.Step.{run}
@@ -7,6 +7,7 @@ use Rattle.plain_runs.specs.Host.{Host}
 use Rattle.plain_runs.specs.declared.status.Status.TheVariants.{Waiting}
 use Rattle.plain_turns.specs.Events.{Reaches}
 use Rattle.plain_turns.specs.Resting.{Rests, HasRun}
+use Rattle.plain_turns.specs.Rooms.{unmade}
 use Rattle.plain_core.specs.Language.{Language, IsSpoken}
 use Rattle.plain_core.specs.declared.running.Counts.{Counts}
 
@@ -36,3 +37,8 @@ HasBroken n l h old new = (s : State) → Rests h s → IsSpoken l s → TakesFr
 pub record IsFew (c : Counts) : Type 0 where
   pub instructions : c.instructions ≤ 2 ^ 70
   pub services : c.services ≤ 2 ^ 30
+
+-- It gave a service for each step, each unit that it put, and four more; and did at most 2^40 instructions for each.
+pub record HasSpent (n : ℕ) (c : Counts) (h to : Host) : Type 0 where
+  pub services : c.services + unmade to.entries ≤ n + 4 + unmade h.entries
+  pub instructions : c.instructions ≤ 2 ^ 40 * c.services

@@ -1,5 +1,5 @@
 //! Primitives that fail: such a one ends the activity, or hands a message over to its handler, and what that meets answers it.
-ghost use Rattle.std.specs.Prelude.{◌≡◌, ◌<◌, ◌≤◌, ◌≢◌, ◌+◌, ◌^◌, slice_get, IfOk, Some, false, true};
+ghost use Rattle.std.specs.Prelude.{◌≡◌, ◌<◌, ◌≤◌, ◌≢◌, ◌+◌, ◌-◌, ◌^◌, slice_get, IfOk, Some, false};
 ghost use Rattle.self_terms.specs.declared.nodes.Node.TheVariants.{Prim};
 ghost use Rattle.object_maps.specs.declared.maps.SlotKind.TheVariants.{Method};
 ghost use Rattle.slot_lookup.specs.declared.sends.Found.TheVariants.{One};
@@ -214,10 +214,10 @@ fn enter(
 {
     match hosting.entry_of(body.0) {
         None => unreachable!(),
-        Some(0) => put(hosting, alloc, walk, language, target, failure, holder, body),
-        Some(at) => Ok(test(
-            hosting, walk, language, target, failure, holder, body, at,
-        )),
+        Some(0) => put(
+            hosting, alloc, walk, language, target, failure, holder, body,
+        ),
+        Some(at) => Ok(test(hosting, walk, language, target, failure, holder, body, at)),
     }
 }
 
@@ -248,7 +248,9 @@ fn meet(
         }
         SlotKind::Assign(_) => unreachable!(),
         SlotKind::Method(body) => {
-            enter(hosting, alloc, walk, language, target, failure, holder, body)
+            enter(
+                hosting, alloc, walk, language, target, failure, holder, body,
+            )
         }
     }
 }
@@ -279,7 +281,9 @@ fn hand(
             Ok(miss(hosting, walk, language, target, failure, error))
         }
         Found::One { holder, kind } => {
-            meet(hosting, alloc, walk, language, target, failure, holder, kind)
+            meet(
+                hosting, alloc, walk, language, target, failure, holder, kind,
+            )
         }
     }
 }

@@ -1,11 +1,14 @@
 //! A run of so many steps.
-ghost use Rattle.std.specs.Prelude.{◌≡◌, ◌<◌, ◌≤◌, ◌+◌, ◌^◌, ℕ, List, OnOk, OnErr, IfOk, IsErrOf};
+ghost use Rattle.std.specs.Prelude.{◌≡◌, ◌<◌, ◌≤◌, ◌+◌, ◌-◌, ◌*◌, ◌^◌, ℕ, List, OnOk, OnErr, IfOk, IsErrOf};
 ghost use Rattle.io_ports.specs.Causes.{Rose};
+ghost use Rattle.source_model.specs.State.{State};
 ghost use Rattle.plain_turns.specs.Asking.{count};
 ghost use Rattle.plain_turns.specs.Events.{Reaches};
+ghost use Rattle.plain_turns.specs.Resting.{IsGoing};
+ghost use Rattle.plain_turns.specs.Rooms.{unmade};
 ghost use Rattle.plain_host.specs.Hosted.{host};
 ghost use Rattle.plain_core.specs.Language.{KnowsCore};
-ghost use Rattle.plain_core.specs.Running.{CanRun, HasBroken, HasRunOn, IsFew};
+ghost use Rattle.plain_core.specs.Running.{CanRun, HasBroken, HasRunOn, HasSpent, IsFew};
 ghost use Rattle.plain_core.specs.Turning.{Broken, CanGoOn, Ran};
 ghost use Rattle.plain_core.specs.declared.running.RunErr.TheVariants.{Write};
 
@@ -56,6 +59,8 @@ fn run_to<K: Sink>(
     ensures runs { OnOk result (Ran language.now (host hosting.old) (host hosting.new) target (K.taken out.old) (K.taken out.new)) }
     ensures reached { IfOk result (λ n. Reaches (host hosting.old) n.instructions n.services (host hosting.new)) }
     ensures few { IfOk result (λ n. (n.instructions ≤ 2 ^ 70) × (n.services < 2 ^ 30)) }
+    ensures spent { IfOk result (λ n. (from : State) (out : List ℕ) → IsGoing (host hosting.old) from target out → n.services + unmade (host hosting.new).entries ≤ (target - from.steps) + 3 + unmade (host hosting.old).entries) }
+    ensures each { IfOk result (λ n. n.instructions ≤ 2 ^ 40 * (n.services + 1)) }
     ensures roomy { OnOk result ((host hosting.new).next ≤ walk.new) }
     ensures grown { walk.old ≤ walk.new }
     ensures broken { OnErr result (Broken language.now (host hosting.old) target (K.taken out.old) (K.taken out.new)) }
@@ -96,6 +101,7 @@ pub fn run<K: Sink>(
     requires room { (host hosting.old).next ≤ walk.old }
     ensures ran { IfOk result (λ n. HasRunOn steps n language.now (host hosting.old) (host hosting.new) (K.taken out.old) (K.taken out.new)) }
     ensures few { IfOk result IsFew }
+    ensures spent { IfOk result (λ n. HasSpent steps n (host hosting.old) (host hosting.new)) }
     ensures roomy { OnOk result ((host hosting.new).next ≤ walk.new) }
     ensures grown { walk.old ≤ walk.new }
     ensures same { OnOk result ((host hosting.new).references ≡ (host hosting.old).references) }

@@ -247,7 +247,13 @@ fn back_of(hosting: &Hosting, _walk: &Walk, _target: u64) -> u32
 }
 
 // The activity ends by an error of the node at whose trap the machine stands, and with it the run.
-pub(crate) fn fail(hosting: &mut Hosting, language: &Language, trap: u8, target: u64, error: ErrorName) -> Turn
+pub(crate) fn fail(
+    hosting: &mut Hosting,
+    language: &Language,
+    trap: u8,
+    target: u64,
+    error: ErrorName,
+) -> Turn
     requires at { StandsAt language.now (host hosting.old) trap target }
     requires small { target ≤ 2 ^ 61 }
     requires other { trap ≢ 9 }

@@ -1,5 +1,5 @@
 -- What answers messages at a trap.
-use Rattle.std.specs.Prelude.{◌≡◌, ℕ, suc, ◌+◌, ◌*◌, ◌<◌, ◌≤◌, false, length, Some, None, slice_get}
+use Rattle.std.specs.Prelude.{◌≡◌, ℕ, ◌+◌, ◌*◌, ◌<◌, ◌≤◌, length}
 use Rattle.self_terms.specs.declared.errors.ErrorName.{ErrorName}
 use Rattle.self_terms.specs.declared.errors.ErrorName.TheVariants as errors
 use Rattle.self_terms.specs.declared.nodes.Node.{Node}
@@ -7,16 +7,13 @@ use Rattle.self_terms.specs.declared.values.BodyId.{BodyId}
 use Rattle.sparc_machine.specs.State.{MachineState}
 use Rattle.source_model.specs.declared.objects.Content.TheVariants.{Method}
 use Rattle.source_model.specs.Messages.{Met, Missing, Holds}
-use Rattle.source_model.specs.Soundness.{body_in}
 use Rattle.source_model.specs.State.{State}
 use Rattle.source_model.specs.Step.{place_of}
 use Rattle.raw_steps.specs.Stands.{Sense}
-use Rattle.plain_words.specs.Units.{owns_context}
 use Rattle.plain_runs.specs.Host.{Host, raw_of}
-use Rattle.plain_runs.specs.Units.{HasUnit}
 use Rattle.plain_runs.specs.Sound.{RunsAt}
 use Rattle.plain_runs.specs.Course.{with_machine, CanGo}
-use Rattle.plain_runs.specs.Services.{data_answers, assigns, calls}
+use Rattle.plain_runs.specs.Services.{data_answers, assigns}
 use Rattle.plain_steps.specs.Steps.{StandsFor, DoesStep}
 use Rattle.plain_sends.specs.Sends.{IsData}
 use Rattle.plain_sends.specs.Messages.{IsMessaged}
@@ -32,13 +29,6 @@ DataAnswersMessages = (z : Sense) (h : Host) (s : State) (b n : ℕ) (node : Nod
 abbrev pub AssignmentsAnswerMessages : Type 0
 AssignmentsAnswerMessages = (z : Sense) (h : Host) (s : State) (b n : ℕ) (node : Node) (args name : ℕ) (met : Met) (r : RunsAt h b n node) (to : MachineState) → IsMessaged z h s b n node args name met r to → StandsFor z h s → CanGo h
     → (holder place : ℕ) → IsAssignment z (raw_of h) s met name holder place → 0 < args → (goal cost : ℕ) → goal ≤ 1000000000 → DoesStep z (assigns goal cost (holder + 7 + 4 * place) (with_machine h to)) s
-
--- Where it meets a method of an object, which is no block's, whose activations have no context, and whose unit stands at an address, the words there do the step.
-abbrev pub MethodsAnswerMessages : Type 0
-MethodsAnswerMessages = (z : Sense) (h : Host) (s : State) (b n : ℕ) (node : Node) (args name : ℕ) (met : Met) (r : RunsAt h b n node) (to : MachineState) → IsMessaged z h s b n node args name met r to → StandsFor z h s → CanGo h
-    → (o : ℕ) (c : BodyId) (holder at : ℕ) → met ≡ Holds o (Method c) → o < length s.things → slice_get z.places.objects o ≡ Some holder → HasUnit h c.0 at
-    → owns_context (body_in h.bodies c.0) ≡ false → (body_in h.bodies c.0).outer ≡ None → 0 < length (body_in h.bodies c.0).nodes → length (body_in h.bodies c.0).arguments ≡ args → suc r.view.older < 4096
-    → (goal cost : ℕ) → goal ≤ 1000000000 → DoesStep z (calls goal cost at holder (with_machine h to)) s
 
 -- Where it meets no slot or more than one, or a method where 4096 activations are there, the current activity ends.
 abbrev pub MissingMessagesFail : Type 0

@@ -1,5 +1,3 @@
-pub mod Onward
-pub mod Counting
 pub mod Running
 pub mod Writing
 pub mod Keeping
@@ -11,3 +9,4 @@ pub mod Obeying
 pub mod Telling
 pub mod Switching
 pub mod Naming
+pub mod Finished

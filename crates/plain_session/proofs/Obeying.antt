@@ -56,7 +56,7 @@ pub record Follows (x y : Session) : Type 0 where
   pub references : (host_of y).references ≡ (host_of x).references
   pub room : (host_of y).next ≤ y.room
 
-shows_after : (x y : Session) (s t : State) → Follows x y → Shows x s → Rests (host_of y) t → IsFixed s t → Shows y t
+pub shows_after : (x y : Session) (s t : State) → Follows x y → Shows x s → Rests (host_of y) t → IsFixed s t → Shows y t
 shows_after x y s t f sh r fixed = record {
   rests = r;
   spoken = subst (λ (l : Language). IsSpoken l t) (sym f.language) (still_spoken x.language s t fixed sh.spoken);
@@ -256,7 +256,7 @@ ended_continues x n is q sh = elim (is q.state sh.rests) [
 abbrev pub of_parts : Hosted → ℕ → Language → ℕ → ℕ → Session
 of_parts hosted room language instructions services = record { hosted = hosted; room = room; language = language; instructions = instructions; services = services }
 
-none_beyond : (xs : List Status) (k : ℕ) → slice_get xs k ≡ None → length xs ≤ k
+pub none_beyond : (xs : List Status) (k : ℕ) → slice_get xs k ≡ None → length xs ≤ k
 none_beyond [] k e = omega arith
 none_beyond (y ∷ ys) zero e = absurd (cc)
 none_beyond (y ∷ ys) (suc k) e = omega (arith, none_beyond ys k e)

@@ -6,7 +6,7 @@ use Rattle.source_model.specs.Step.{step, onward, run}
 use Rattle.raw_steps.specs.Fixed.{IsFixed}
 use Rattle.raw_steps.proofs.Fixed.{step_fixed}
 use Rattle.plain_stretches.specs.Printing.{printed}
-use Rattle.plain_session.proofs.Counting.{CountsOn, step_counts}
+use Rattle.plain_core.proofs.Counting.{CountsOn, step_counts}
 
 -- States with the same names, bodies, core objects and fixed strings.
 

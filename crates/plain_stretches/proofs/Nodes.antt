@@ -1,6 +1,6 @@
 -- From a node's poll: its step, or a trap.
 use Rattle.std.proofs.Common.{◌≡◌, ℕ, zero, suc, ◌+◌, ◌-◌, ◌*◌, ◌<◌, ◌≤◌, refl, subst, arith, length-append}
-use Rattle.std.specs.Prelude.{Bool, true, false, not, ◌||◌, nat_eq, if◌then◌else◌, [], ◌∷◌, ◌++◌, length, Some}
+use Rattle.std.specs.Prelude.{Bool, true, false, not, nat_eq, if◌then◌else◌, [], ◌∷◌, ◌++◌, length, Some}
 use Rattle.self_terms.specs.declared.names.Name.{Name}
 use Rattle.self_terms.specs.declared.names.TheConstants.{INT_SUB}
 use Rattle.self_terms.specs.declared.nodes.Node.{Node}
@@ -14,8 +14,6 @@ use Rattle.source_model.specs.Formed.{IsWellFormed}
 use Rattle.source_model.specs.State.{State}
 use Rattle.source_model.specs.Soundness.{body_in, Names}
 use Rattle.source_model.specs.Step.{step}
-use Rattle.raw_steps.specs.Messages.{asked}
-use Rattle.raw_steps.specs.Sends.{here_of}
 use Rattle.raw_steps.specs.Stands.{Sense}
 use Rattle.plain_words.specs.Going.{Goes, IsTrap}
 use Rattle.plain_words.specs.Code.{poll, is_sum, handed_code, summed_code, sum_code, primitive_code, answered_code}
@@ -27,15 +25,14 @@ use Rattle.plain_runs.specs.Sound.{RunsAt}
 use Rattle.plain_runs.specs.Course.{CanGo, code_at}
 use Rattle.plain_runs.proofs.Ready.{there_at}
 use Rattle.plain_steps.specs.Paying.{IsPaid, HasMaps}
-use Rattle.plain_steps.specs.Steps.{DoesStep, EndsActivity, is_summed, IsSummed, IsTrapOf, AsksPrimitive, Performs, InWords, ByService}
+use Rattle.plain_steps.specs.Steps.{DoesStep, EndsActivity, IsTrapOf, AsksPrimitive, Performs, InWords, ByService}
 use Rattle.plain_steps.proofs.Summing.{primitives_perform}
-use Rattle.plain_steps.proofs.Here.{at_node_of}
 use Rattle.plain_steps.proofs.Words.{self_steps, int_steps, string_steps, nil_steps, drop_steps}
 use Rattle.plain_steps.proofs.Restarting.{restart_steps}
 use Rattle.plain_sends.specs.Sends.{selector_of}
 use Rattle.plain_sends.proofs.Sending.{nodes_send}
-use Rattle.plain_prims.specs.Asking.{IsPerformed, Performed, InWords as DoneInWords, ByService as AskedFor}
-use Rattle.plain_prims.proofs.Asking.{performed, primitives_ask}
+use Rattle.plain_prims.specs.Asking.{IsPerformed}
+use Rattle.plain_prims.proofs.Asking.{performed}
 use Rattle.plain_contexts.specs.Literals.{Literal, Made, Full}
 use Rattle.plain_contexts.proofs.Answering.{return_answers, end_answers}
 use Rattle.plain_contexts.proofs.Assigning.{stores}
@@ -44,7 +41,7 @@ use Rattle.plain_contexts.proofs.Literals.{literals_make}
 use Rattle.plain_contexts.proofs.Reading.{reads}
 use Rattle.plain_unwinds.proofs.Returning.{home_asks}
 use Rattle.plain_stretches.specs.Standing.{IsSound, IsOn, left_of}
-use Rattle.plain_stretches.specs.Stretches.{AreFit, Performs as HasPerformed, Halts, AtGoal, AtSend, AtPrimitive, AtHome, AtFull, AtEnd}
+use Rattle.plain_stretches.specs.Stretches.{AreFit, Halts, AtGoal, AtSend, AtPrimitive, AtHome, AtFull, AtEnd}
 use Rattle.plain_stretches.proofs.Named.{named_there}
 use Rattle.plain_stretches.proofs.Polls.{polls_stop}
 use Rattle.plain_stretches.proofs.Waiting.{polls_wait}

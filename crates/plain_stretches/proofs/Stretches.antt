@@ -12,11 +12,10 @@ use Rattle.plain_words.proofs.Basics.{goes_then}
 use Rattle.plain_runs.specs.Host.{Host}
 use Rattle.plain_runs.specs.Course.{with_machine, AllRun}
 use Rattle.plain_steps.specs.Paying.{IsPaid, HasMaps}
-use Rattle.plain_steps.specs.Steps.{DoesStep}
 use Rattle.plain_steps.proofs.Paying.{steps_pay}
 use Rattle.plain_prims.specs.Performing.{DoesPrint}
 use Rattle.plain_stretches.specs.Printing.{printed}
-use Rattle.plain_stretches.specs.Standing.{IsOn, IsSet, left_of}
+use Rattle.plain_stretches.specs.Standing.{IsOn, left_of}
 use Rattle.plain_stretches.specs.Stretches.{AreFit, Stretch, StretchOn, PollsStretch, StepsStretch, PrintsStretch, StretchesRun}
 use Rattle.plain_stretches.proofs.Further.{none_run, next_run, printed_run}
 use Rattle.plain_stretches.proofs.Named.{maps_on}

@@ -1,9 +1,7 @@
 -- What holds before a run of words, and after the services that settle it.
 use Rattle.std.specs.Prelude.{◌≡◌, ℕ, ◌+◌, ◌-◌, ◌<◌, ◌≤◌}
 use Rattle.self_terms.specs.declared.nodes.Node.{Node}
-use Rattle.self_terms.specs.declared.nodes.Place.{Place}
 use Rattle.self_terms.specs.declared.nodes.Selector.{Selector}
-use Rattle.self_terms.specs.declared.errors.ErrorName.{ErrorName}
 use Rattle.sparc_store.specs.Words.{word_at}
 use Rattle.sparc_machine.specs.State.{MachineState}
 use Rattle.source_model.specs.State.{State}
@@ -12,7 +10,7 @@ use Rattle.raw_steps.specs.Stands.{Sense}
 use Rattle.plain_words.specs.Going.{IsTrap}
 use Rattle.plain_words.specs.Moves.{Moved}
 use Rattle.plain_runs.specs.Host.{Host}
-use Rattle.plain_runs.specs.Services.{settled, data_answers, waits, ends, failed, fails}
+use Rattle.plain_runs.specs.Services.{settled, data_answers, waits, ends}
 use Rattle.plain_runs.specs.Sound.{RunsAt, IsHosted}
 use Rattle.plain_runs.specs.Course.{with_machine, AllRun, CanGo}
 use Rattle.plain_steps.specs.Steps.{StandsFor, DoesStep, EndsActivity}

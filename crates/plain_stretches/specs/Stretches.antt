@@ -1,26 +1,23 @@
 -- A stretch: how words go on to the next trap.
-use Rattle.std.specs.Prelude.{◌≡◌, ◌≢◌, ℕ, suc, ◌+◌, ◌-◌, ◌*◌, ◌^◌, ◌<◌, ◌≤◌, Bool, true, false, List, [], ◌∷◌, ◌++◌, length, Some, slice_get}
+use Rattle.std.specs.Prelude.{◌≡◌, ℕ, suc, ◌+◌, ◌*◌, ◌^◌, ◌<◌, ◌≤◌, Bool, List, [], ◌++◌, Some}
 use Rattle.self_terms.specs.declared.names.Name.{Name}
-use Rattle.self_terms.specs.declared.nodes.Node.{Node}
 use Rattle.self_terms.specs.declared.nodes.Node.TheVariants as nodes
 use Rattle.self_terms.specs.declared.nodes.Selector.{Selector}
 use Rattle.self_terms.specs.declared.values.BodyId.{BodyId}
 use Rattle.sparc_store.specs.Words.{word_at}
 use Rattle.sparc_machine.specs.State.{MachineState}
 use Rattle.source_model.specs.Formed.{IsWellFormed}
-use Rattle.source_model.specs.State.{Activation, Running, State, silent}
+use Rattle.source_model.specs.State.{State, silent}
 use Rattle.source_model.specs.Soundness.{HasBody, IsFit}
 use Rattle.source_model.specs.Step.{step, run}
 use Rattle.raw_steps.specs.Stands.{Sense}
 use Rattle.plain_words.specs.Going.{Goes, IsTrap}
-use Rattle.plain_words.specs.Moves.{Moved}
 use Rattle.plain_runs.specs.Host.{Host}
-use Rattle.plain_runs.specs.Services.{data_answers}
 use Rattle.plain_runs.specs.Sound.{RunsAt}
-use Rattle.plain_runs.specs.Course.{with_machine, CanGo, AllRun, code_at}
-use Rattle.plain_steps.specs.Steps.{StandsFor, DoesStep, EndsActivity}
+use Rattle.plain_runs.specs.Course.{with_machine, CanGo, AllRun}
+use Rattle.plain_steps.specs.Steps.{DoesStep, EndsActivity}
 use Rattle.plain_steps.specs.Paying.{IsPaid, HasMaps}
-use Rattle.plain_sends.specs.Sends.{selector_of, met_of, IsSent, IsData}
+use Rattle.plain_sends.specs.Sends.{selector_of, IsSent}
 use Rattle.plain_prims.specs.Asking.{IsPerformed}
 use Rattle.plain_prims.specs.Performing.{DoesPrint}
 use Rattle.plain_contexts.specs.Literals.{IsFullHere}

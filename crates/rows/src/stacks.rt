@@ -28,7 +28,15 @@ out 6~out 8~done 8 at 60~;0";
 // On until the youngest activation is gone.
 const FINISHES: &str = "\
 main = ( | i <- 0. s <- 0 | [ i < 100000 ] whileTrue: [ s: s + 3. i: i + 1 ]. s ).~;spawn main~run 5000~step~finish 100~;\
-activity 1~stop at 5000 line 4:46~stop at 5001 line 4:57~stop at 5002 line 10:67~;0";
+activity 1~stop at 5000 line 4:46~stop at 5001 line 4:57~stop at 5002 line 10:67~;0
+main = ( 3 _IntAdd: 4 ).~;finish 5~spawn main~finish 0~finish 2~finish 100~finish 1~;\
+refused no activity~activity 1~stop at 0 line 10:10~stop at 2 line 10:12~done 7 at 4~refused ended~;0
+c8 = ( 5 ).~c7 = ( c8 ).~c6 = ( c7 ).~c5 = ( c6 ).~c4 = ( c5 ).~c3 = ( c4 ).~c2 = ( c3 ).~c1 = ( c2 ).~main = ( c1 ).~;spawn main~run 9~finish 100~finish 100~run 9~;\
+activity 1~stop at 9 line 10:10~stop at 10 line 11:11~stop at 11 line 12:11~done 5 at 18~;0
+c8 = ( 5 ).~c7 = ( c8 ).~c6 = ( c7 ).~c5 = ( c6 ).~c4 = ( c5 ).~c3 = ( c4 ).~c2 = ( c3 ).~c1 = ( c2 ).~main = ( c1 ).~;spawn main~run 3~finish 3~finish 100~run 9~;\
+activity 1~stop at 3 line 15:8~stop at 6 line 12:8~stop at 12 line 13:11~done 5 at 18~;0
+deep = ( [ [ [ ^ 9 ] value ] value ] value. 8 ).~main = ( deep ).~;spawn main~run 8~finish 100~finish 100~;\
+activity 1~stop at 8 line 10:16~stop at 9 line 11:15~done 9 at 10~;0";
 
 #[test]
 fn shows_stacks(rt: HostRuntime) -> Result<(), Fail> {

@@ -4,6 +4,7 @@ use Rattle.plain_runs.specs.Host.{Host}
 use Rattle.plain_core.proofs.Fronts.{any_err}
 use Rattle.plain_core.proofs.Keeping.{known_keeps, reaches_keep}
 use Rattle.plain_core.proofs.Rounds.{can_go, has_run, has_broken}
+use Rattle.plain_core.proofs.Spending.{has_spent}
 use Rattle.plain_core.proofs.running.run.Goals as goal
 
 pub run_to-requires-clause-at : goal.run_to-requires-clause-at
@@ -18,6 +19,10 @@ returns-clause-ran g c =
 
 pub returns-clause-same : goal.returns-clause-same
 returns-clause-same g c = reaches_keep (host c.go_back.new.self) (host c.run_to.new.hosting) c.in_ok-taken.taken.instructions c.in_ok-taken.taken.services c.in_ok-taken.ensures.reached ∙ ap (λ (y : Host). y.references) c.go_back.ensures
+
+pub returns-clause-spent : goal.returns-clause-spent
+returns-clause-spent g c =
+    has_spent c.args.language.now (host c.args.hosting.now) (host c.go_back.new.self) (host c.run_to.new.hosting) c.args.steps _ c.steps.result c.in_ok-taken.taken c.requires.rests c.go_back.ensures (c.saturating_sub-cost.ensures ∙ ap (λ (k : ℕ). 4194304 - k) c.cost.ensures) c.steps.ensures c.requires.few c.in_ok-taken.ensures.spent c.in_ok-taken.ensures.each
 
 pub returns-in_err-taken-clause-broken : goal.returns-in_err-taken-clause-broken
 returns-in_err-taken-clause-broken g c =

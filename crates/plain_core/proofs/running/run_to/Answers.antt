@@ -5,6 +5,7 @@ use Rattle.plain_core.proofs.Fronts.{any_err, takes_none, takes_more}
 use Rattle.plain_core.proofs.Joining.{joined}
 use Rattle.plain_core.proofs.Keeping.{reaches_keep, went_keep, known_keeps}
 use Rattle.plain_core.proofs.Rounds.{none_at, at_trap, next_none, next_more, goes_reached, still_room, few_turns, one_less, still_at, broken_on}
+use Rattle.plain_core.proofs.Spending.{behind_at, behind_none, behind_less, first_behind}
 use Rattle.plain_core.proofs.running.run_to.Goals as goal
 
 pub loop-at-init : goal.loop-at-init
@@ -22,6 +23,8 @@ loop-at-init g c =
       reached = goes_reached (host c.args.hosting.now) (host c.go-first.new.hosting) c.go-first.result.instructions first.went;
       served = omega (arith, turns);
       taken = omega (arith, turns, few);
+      spent = λ from out going. (let left = first_behind (host c.args.hosting.now) (host c.go-first.new.hosting) c.go-first.result.instructions c.go-first.result.trap from c.args.target out first.went going (first.came from out going) in omega (arith, left));
+      each = omega (arith, few);
       later = omega arith;
     }
 
@@ -43,6 +46,9 @@ loop-at-preserved g c =
     let served = inv.served in
     let taken = inv.taken in
     let few = on.few in
+    let left = behind_less c.args.target (host c.loop-at.hosting) (host c.take_turn.new.hosting) turn.next turn.instructions on.reached on.less in
+    let stood = behind_at c.args.target (host c.loop-at.hosting) c.loop-at.at c.in-Some.trap c.in-Some.is in
+    let each = inv.each in
     let s = inv.stands in
     let grown = inv.grown in
     let grows = c.take_turn.ensures.grown in
@@ -61,6 +67,8 @@ loop-at-preserved g c =
       reached = joined (host c.args.hosting.now) (host c.loop-at.hosting) (host c.take_turn.new.hosting) c.loop-at.instructions c.loop-at.services turn.instructions 1 inv.reached on.reached;
       served = omega (arith, served, less, here);
       taken = omega (arith, taken, less, here, few);
+      spent = λ from out going. (let spent = inv.spent from out going in omega (arith, spent, left, stood));
+      each = omega (arith, each, few);
       later = omega (arith, later, later_on);
     }
 
@@ -72,6 +80,12 @@ returns-clause-runs g c =
       takes = inv.said.1;
       ran = λ from out spoken x. none_at (host c.loop-at.hosting) from c.args.target (out ++ inv.said.0) c.loop-at.at c.in_default.is (inv.said.2 from out spoken x);
     }
+
+pub returns-clause-spent : goal.returns-clause-spent
+returns-clause-spent g c = λ from out going.
+    let spent = c.loop-at.invariant.spent from out going in
+    let none = behind_none c.args.target (host c.loop-at.hosting) c.loop-at.at c.in_default.is in
+    omega (arith, spent, none)
 
 pub returns-in_err-turn-clause-broken : goal.returns-in_err-turn-clause-broken
 returns-in_err-turn-clause-broken g c =

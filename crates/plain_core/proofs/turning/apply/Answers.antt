@@ -1,4 +1,4 @@
-use Rattle.std.proofs.Common.{◌≡◌, ℕ, ◌-◌, ◌≤◌, ◌∙◌, ap, sym, subst, arith}
+use Rattle.std.proofs.Common.{◌≡◌, ℕ, ◌-◌, ◌≤◌, ap, sym, subst, arith}
 use Rattle.std.specs.Prelude.{Some}
 use Rattle.self_terms.specs.declared.nodes.Node.TheVariants as nodes
 use Rattle.prim_table.specs.declared.answers.PrimAnswer.TheVariants as answers
@@ -128,8 +128,8 @@ returns-in_err-make_room-in-Done-clause-broken g c =
     let said = c.in_ok-write_line-in-Done.ensures.said in
     any_err _ c.from_residual-in_err-make_room-in-Done.result (answer_breaks l h c.args.target c.requires.at c.args.prim c.args.name c.args.args c.args.implied c.args.handler c.requires.known core c.core_words-core.ensures to applied.heap told.same c.in-Done.word c.args.words was c.requires.costs c.requires.fits (g.K.Sink.taken c.args.out.now) (g.K.Sink.taken c.write_line.new.out) said.0 (says l h c.args.target c.requires.at c.args.prim c.args.name c.args.args c.args.implied c.args.handler c.requires.known core c.core_words-core.ensures to applied.heap told.same c.in-Done.word c.args.words was c.requires.costs c.requires.fits said.0 said.1) said.2)
 
-pub returns-in-Ok-in-Fails-clause-served : goal.returns-in-Ok-in-Fails-clause-served
-returns-in-Ok-in-Fails-clause-served g c =
+pub returns-in-Ok-clause-served : goal.returns-in-Ok-clause-served
+returns-in-Ok-clause-served g c =
     let l = c.args.language.now in
     let h = host c.args.hosting.now in
     let to = host c.apply_asked-applied.new.self in
@@ -138,10 +138,10 @@ returns-in-Ok-in-Fails-clause-served g c =
     let core = c.core_words-core.result in
     let was = was_so h c.args.prim c.args.args core to.machine.memory applied.heap applied.answer (answers.Fails c.in-Fails.error) c.in-Fails.is (record { answers = told.answer; outside = told.outside; within = c.is_whole.ensures.machine.memory_within }) in
     let same = failed_same l h c.args.target c.requires.at c.args.prim c.args.name c.args.args c.args.implied c.args.handler c.requires.known core c.core_words-core.ensures to applied.heap told.same c.in-Fails.error was in
-    (subst (λ (y : Host). Quiet l 3 y (host c.give_up.new.hosting) c.args.target c.in-Ok-in-Fails.turn) same c.in-Ok-in-Fails.ensures.served).served (g.K.Sink.taken c.args.out.now)
+    (subst (λ (y : Host). Quiet l 3 y (host c.give_up.new.hosting) c.args.target c.in-Ok.turn) same c.in-Ok.ensures.served).served (g.K.Sink.taken c.args.out.now)
 
-pub returns-in-Err-in-Fails-clause-broken : goal.returns-in-Err-in-Fails-clause-broken
-returns-in-Err-in-Fails-clause-broken g c = breaks_here c.args.language.now 3 (host c.args.hosting.now) c.args.target (g.K.Sink.taken c.args.out.now)
+pub returns-in-Err-clause-broken : goal.returns-in-Err-clause-broken
+returns-in-Err-clause-broken g c = breaks_here c.args.language.now 3 (host c.args.hosting.now) c.args.target (g.K.Sink.taken c.args.out.now)
 
 pub returns-in_ok-make_room-in-Done-clause-served : goal.returns-in_ok-make_room-in-Done-clause-served
 returns-in_ok-make_room-in-Done-clause-served g c =

@@ -1,5 +1,4 @@
-use Rattle.std.proofs.Common.{◌∙◌, ap, sym}
-use Rattle.std.specs.Prelude.{Some}
+use Rattle.std.proofs.Common.{◌∙◌, sym}
 use Rattle.std.proofs.lemmas.Option.{same_Some}
 use Rattle.plain_host.specs.Hosted.{host}
 use Rattle.plain_core.proofs.Fronts.{breaks_here}
@@ -17,3 +16,9 @@ pub unreachable-requires : goal.unreachable-requires
 unreachable-requires g c =
     let q = primitive_here _ _ _ c.requires.at in
     c.in_default.not-Prim q.name q.args q.implied q.handler (same_Some _ _ (sym c.requires.here ∙ q.node_is))
+
+pub returns-in-Ok-clause-served : goal.returns-in-Ok-clause-served
+returns-in-Ok-clause-served g c = c.in-Ok.ensures.served.served (g.K.Sink.taken c.args.out.now)
+
+pub returns-in-Err-clause-broken : goal.returns-in-Err-clause-broken
+returns-in-Err-clause-broken g c = breaks_here c.args.language.now 3 (host c.args.hosting.now) c.args.target (g.K.Sink.taken c.args.out.now)

@@ -1,2 +1,0 @@
--- Methods that plain code calls.
-pub mod Calls
