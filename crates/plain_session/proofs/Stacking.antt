@@ -29,7 +29,7 @@ use Rattle.plain_turns.specs.Resting.{Rests}
 use Rattle.plain_show.specs.Showing.{IsAtPoll, flushed_host, stack_shown}
 use Rattle.plain_show.proofs.Flushing.{may_flush, few_frames}
 use Rattle.plain_show.proofs.Kept.{stays_at_poll}
-use Rattle.plain_show.proofs.Shows.{stacks_show}
+use Rattle.plain_show.proofs.Agreeing.{stacks_show}
 use Rattle.plain_turns.specs.Asking.{count}
 use Rattle.world_heap.proofs.Fronts.{at_take}
 use Rattle.run_lines.specs.Standing.{GoesOn}
@@ -37,6 +37,16 @@ use Rattle.plain_session.specs.Stacks.{AreShort, AllNamed}
 use Rattle.plain_session.proofs.Fronts.{takes_none, takes_both, front_of_both, front_of_first}
 
 -- Lines.
+
+-- the line of an activation, as it was put together
+pub frame_is : (core given : Core) (names told : List (List ℕ)) (bodies : List Body) (b : Body) (position : ℕ) (act : ShownAct) (o : Option ShownAct) (text line : List ℕ) → given ≡ core → told ≡ names → b ≡ body_in bodies act.body.0
+    → o ≡ Some act → line ≡ frame_text given told b position act → text ≡ line → text ≡ act_text core names bodies position o
+frame_is core given names told bodies b position act o text line same_core same_names same_body is put written =
+    written ∙ put
+    ∙ ap (λ (c : Core). frame_text c told b position act) same_core
+    ∙ ap (λ ns. frame_text core ns b position act) same_names
+    ∙ ap (λ (x : Body). frame_text core names x position act) same_body
+    ∙ ap (act_text core names bodies position) (sym is)
 
 module _ (core : Core) (names : List (List ℕ)) (bodies : List Body) where
   -- the lines of the oldest so many
@@ -49,12 +59,15 @@ module _ (core : Core) (names : List (List ℕ)) (bodies : List Body) where
     pub takes : Takes old now said
     pub whole : acts_text core names bodies (reverse xs) ≡ said ++ oldest xs k
 
-  pub took_none : (xs : List ShownAct) (taken : Option (List ℕ)) → Took xs (length xs) taken taken
+  took_none : (xs : List ShownAct) (taken : Option (List ℕ)) → Took xs (length xs) taken taken
   took_none xs taken = record { said = []; takes = takes_none taken; whole = ap (λ (l : List ShownAct). acts_text core names bodies (reverse l)) (sym (take_all xs)) }
     where
       take_all : (ys : List ShownAct) → take (length ys) ys ≡ ys
       take_all [] = refl
       take_all (y ∷ ys) = ap (λ (l : List ShownAct). y ∷ l) (take_all ys)
+
+  pub took_first : (xs : List ShownAct) (taken : Option (List ℕ)) → Took xs (length xs - 0) taken taken
+  took_first xs taken = let all : length xs ≡ length xs - 0 = omega arith in subst (λ k. Took xs k taken taken) all (took_none xs taken)
 
   take_long : (xs : List ShownAct) (k : ℕ) (x : ShownAct) → slice_get xs k ≡ Some x → length (take k xs) ≡ k
   take_long [] k x e = absurd (cc)
@@ -131,7 +144,7 @@ pub few_shown : (h : Host) → IsAtPoll h → length (stack_shown h) ≤ 4096
 few_shown h p =
     let m = h.machine in
     let act : Frame → ShownAct = act_shown h.maps h.bodies (flushed_host h).machine.memory (seen h) in
-    let long : length (stack_shown h) ≡ m.regs 4 = length-reverse (map act (seen h)) ∙ length-map act (seen h) ∙ seen_long (descriptor_at h) m.memory (m.regs 4) (m.regs 14) (kept m.regs) m.pc m.older in
+    let long : length (stack_shown h) ≡ m.regs 4 = length-reverse (map act (seen h)) ∙ length-map (seen h) act ∙ seen_long (descriptor_at h) m.memory (m.regs 4) (m.regs 14) (kept m.regs) m.pc m.older in
     let few = few_frames h p in
     omega (arith, long, few)
 

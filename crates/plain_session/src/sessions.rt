@@ -32,7 +32,7 @@ use run_lines::{Standing, run_line, standing_of};
 use self_terms::{ErrorName, Name, OutOfMemory};
 use session_text::{Command, LineText};
 use slot_lookup::Walk;
-use std::alloc::{AllocError, Global};
+use std::alloc::Global;
 use std::marker::Model;
 use world_heap::WorldImage;
 use world_test::{number_of, session_names};
@@ -121,21 +121,20 @@ impl Session {
         image.is_whole();
         let core = image.world().core();
         let names = session_names(alloc, image.world().names())?;
-        if !are_short(&names, image.world()) {
-            return Err(AllocError);
-        }
+        are_short(&names, image.world())?;
         let fixed = image.world().objects();
         let failure = number_of(&names, b"value:With:");
         let hosting = plain_opens::open(alloc, image)?;
         let walk = Walk::open(alloc, hosting.next())?;
         let language = Language::open(alloc, names, core, fixed, Name(failure))?;
+        let stacks = StackWriter::open(alloc)?;
         Ok(Session {
             hosting,
             walk,
             language,
             instructions: 0,
             services: 0,
-            stacks: StackWriter::open(alloc)?,
+            stacks,
         })
     }
 
