@@ -1,14 +1,9 @@
-use Rattle.std.proofs.Common.{◌≡◌, ℕ, ◌+◌, ◌^◌, ◌<◌, sym, ap, subst, ◌∙◌, arith}
-use Rattle.std.specs.Prelude.{codes, length}
-use Rattle.source_model.specs.Formed.{IsWellFormed}
+use Rattle.std.proofs.Common.{sym, ap, subst, ◌∙◌, arith}
+use Rattle.std.specs.Prelude.{codes}
 use Rattle.source_model.specs.Names.{number_of}
 use Rattle.plain_runs.specs.Host.{Host}
 use Rattle.plain_core.specs.Language.{Language}
 use Rattle.plain_host.specs.Hosted.{host}
-use Rattle.plain_host.specs.Opened.{opened_host}
-use Rattle.world_blocks.specs.Sessions.{session_names}
-use Rattle.world_heap.specs.Images.{Image}
-use Rattle.world_state.specs.Begun.{begun}
 use Rattle.plain_session.specs.Stacks.{AreShort}
 use Rattle.world_build.specs.Worlds.{World}
 use Rattle.plain_session.proofs.Naming.{names_are}
