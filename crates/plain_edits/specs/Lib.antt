@@ -1,0 +1,2 @@
+-- What an accepted edit does while a session rests.
+pub mod Heaps

@@ -1,0 +1,11 @@
+// What an accepted edit does to machine and host while a session rests.
+//
+// Model: `with_method` of source_model says what an edit of a method's slot does to a state, and `Rests` of plain_turns that machine and host stand for a
+// state between commands.
+// Promise: laws alone. Where the words of new strings, the new map of the object and those of new blocks are put, the heap stands for the objects of
+// the state that the edit comes to.
+#![tactic(auto)]
+
+mod laws;
+
+pub use laws::heaps_follow_edits;
