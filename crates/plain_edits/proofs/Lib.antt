@@ -1,2 +1,5 @@
 pub mod Slots
 pub mod Heaps
+pub mod Coming
+pub mod Units
+pub mod Passing

@@ -1,2 +1,4 @@
 -- What an accepted edit does while a session rests.
 pub mod Heaps
+pub mod Edits
+pub mod Resting

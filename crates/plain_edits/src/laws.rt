@@ -1,7 +1,25 @@
 // Laws of edits while a session rests.
 ghost use Rattle.plain_edits.specs.Heaps.{HeapsFollowEdits};
+ghost use Rattle.plain_edits.specs.Resting.{EditsCome, EditsForm, EditsPay, EditsRest, EditsStand};
 
 /// A law: the heap with a new map of an object, and with the words of new strings, stands for the objects that an edit leaves.
 pub fn heaps_follow_edits()
     ensures { HeapsFollowEdits }
+{}
+
+/// A law: where the source accepts an edit, its command comes to the state that the edit leaves, which is well formed.
+pub fn edits_come()
+    ensures come { EditsCome }
+    ensures form { EditsForm }
+{}
+
+/// A law: machine and host with the edit stand for that state, and the heap's room is paid for behind the strings.
+pub fn edits_stand()
+    ensures stand { EditsStand }
+    ensures pay { EditsPay }
+{}
+
+/// A law: the session rests again, for that state, where there is room.
+pub fn edits_rest()
+    ensures { EditsRest }
 {}

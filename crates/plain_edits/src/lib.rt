@@ -8,4 +8,4 @@
 
 mod laws;
 
-pub use laws::heaps_follow_edits;
+pub use laws::{edits_come, edits_rest, edits_stand, heaps_follow_edits};
