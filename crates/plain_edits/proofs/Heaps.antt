@@ -116,7 +116,7 @@ heaps_follow_edits maps more mem new heap h p things made is whole o word name s
     let old_slots : slots_in all (map_at mem word) ≡ ks = get_or_append_left maps (own ∷ more) [] (map_at mem word) within in
     let new_slots : slots_in all (length maps) ≡ own = ap (slots_in all) (let none : length maps ≡ length maps + 0 = omega arith in none) ∙ get_or-append-add maps (own ∷ more) 0 [] in
     let many : length all ≡ length maps + suc (length more) = length-append maps (own ∷ more) in
-    let own_listed : HasListed p.objects own = λ at n w there. is.rooted (map_at mem word) at n w (parents_stay h p name old k c ks at n w b refl there) in
+    let own_listed : HasListed p.objects own = λ at n w there. is.rooted (map_at mem word) at n w (parents_stay name k ks at n w b refl there) in
     let with_maps : IsHeap all mem heap h p things made = maps_more mem heap h p things made (own ∷ more) maps (own_listed, listed) is in
     let number = length maps in
     let mid = with_word mem (word - 1) (4 * number) in

@@ -3,3 +3,8 @@ pub mod Heaps
 pub mod Coming
 pub mod Units
 pub mod Passing
+pub mod Hosting
+pub mod Grounded
+pub mod Mapped
+pub mod Standing
+pub mod Resting

@@ -33,7 +33,7 @@ use Rattle.plain_runs.proofs.Located.{slice_front, slice_behind}
 use Rattle.plain_runs.proofs.Pointed.{call_descriptor, in_poll_descriptor}
 use Rattle.plain_runs.proofs.Working.{held_have_room, callers_have_room}
 use Rattle.plain_units.proofs.Points.{at_same}
-use Rattle.plain_edits.specs.Heaps.{texts_words, text_references}
+use Rattle.plain_edits.specs.Heaps.{text_words, text_references}
 use Rattle.plain_edits.specs.Edits.{Edit, with_edit, NewRun}
 use Rattle.plain_edits.proofs.Units.{SameNode, SameWords, unit_same, points_same, offset_same}
 
@@ -48,7 +48,7 @@ pub record Ground (h : Host) (e : Edit) (memory : Words) : Type 0 where
 
 references_long : (at : ℕ) (xs : List (List ℕ)) → length (text_references at xs) ≡ length xs
 references_long at [] = refl
-references_long at (x ∷ xs) = ap suc (references_long _ xs)
+references_long at (x ∷ xs) = ap suc (references_long (at + 4 * text_words x) xs)
 
 -- a body that has a unit has an entry in front of the new ones
 no_entry : (xs : List Body) (j at : ℕ) → slice_get (map (λ (x : Body). 0) xs) j ≡ Some at → at ≡ 0

@@ -96,12 +96,13 @@ module _ (h : Cells) (p : Places) (name : ℕ) (old : BodyId) (k : SlotKind) (c 
   slot_at n [] (x ∷ xs) are apart e = absurd are
   slot_at n (y ∷ ys) [] are apart e = absurd are
 
-  -- its parents are those that it had
+-- the parents of a map are those that it had
+module _ (name : ℕ) (k : SlotKind) where
   pub parents_stay : (ks : Slots) (at n word : ℕ) (b : BodyId) → k ≡ kind.Method b → slice_get (with_kind name k ks) at ≡ Some (n, kind.Parent word) → slice_get ks at ≡ Some (n, kind.Parent word)
   parents_stay [] at n word b is e = e
   parents_stay (y ∷ ys) zero n word b is e = by_test (y.0 == name) e
     where
-      by_test : (t : Bool) → ◌≡◌ {A = Option (ℕ × SlotKind)} (Some (put_kind t y)) (Some (n, kind.Parent word)) → ◌≡◌ {A = Option (ℕ × SlotKind)} (Some y) (Some (n, kind.Parent word))
+      by_test : (t : Bool) → ◌≡◌ {A = Option (ℕ × SlotKind)} (Some (if t then (name, k) else y)) (Some (n, kind.Parent word)) → ◌≡◌ {A = Option (ℕ × SlotKind)} (Some y) (Some (n, kind.Parent word))
       by_test true f = absurd (let g : k ≡ kind.Parent word = ap (λ (z : ℕ × SlotKind). z.1) (same_Some (name, k) (n, kind.Parent word) f) in let d : kind.Method b ≡ kind.Parent word = sym is ∙ g in cc)
       by_test false f = f
   parents_stay (y ∷ ys) (suc at) n word b is e = parents_stay ys at n word b is e

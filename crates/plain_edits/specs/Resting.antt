@@ -56,7 +56,7 @@ EditsStand = (z : Sense) (h : Host) (s : State) (path : List (List ℕ)) (e : Ed
 
 -- The heap's room is paid for behind the strings, where there is so much of it.
 abbrev pub EditsPay : Type 0
-EditsPay = (z : Sense) (h : Host) (s : State) (path : List (List ℕ)) (e : Edit) (o start : ℕ) (memory : Words) → StandsFor z h s → IsGiven z h s path e o memory
+EditsPay = (z : Sense) (h : Host) (s : State) (path : List (List ℕ)) (e : Edit) (o start : ℕ) (memory : Words) → StandsFor z h s → IsWellFormed s → IsGiven z h s path e o memory
     → start + 4 * texts_words e.text.strings + 4 * 4194304 ≤ 0x20000000 + 46137344 → IsPaid start h → IsPaid (start + 4 * texts_words e.text.strings) (with_edit e memory h)
 
 -- There is room: in the heap behind the strings for all that may be paid, in the code region for the units of the new bodies, and in numbers for these and

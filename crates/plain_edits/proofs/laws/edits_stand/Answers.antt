@@ -1,9 +1,8 @@
-use Rattle.plain_edits.proofs.Units.{unit_same}
-use Rattle.plain_edits.proofs.Passing.{kept_in}
+use Rattle.plain_edits.proofs.Standing.{edits_pay, edits_stand}
 use Rattle.plain_edits.proofs.laws.edits_stand.Goals as goal
 
 pub returns-clause-stand : goal.returns-clause-stand
-returns-clause-stand c = ?stand
+returns-clause-stand c = edits_stand
 
 pub returns-clause-pay : goal.returns-clause-pay
-returns-clause-pay c = ?pay
+returns-clause-pay c = edits_pay
