@@ -133,7 +133,7 @@ module _ (h : Host) (s : State) (path : List (List ℕ)) (e : Edit) (o : ℕ) (m
 
   room_in : HasRoom to
   room_in = record {
-    each = omega (arith, r.ready.room.each, length-append h.entries (map (λ (y : Body). 0) e.bodies), length-append h.bodies e.bodies, length-map e.bodies (λ (y : Body). 0));
+    each = omega (arith, r.ready.room.each, length-append h.entries (map (λ (y : Body). 0) e.bodies), length-append h.bodies e.bodies, length-map {B = ℕ} e.bodies (λ (y : Body). 0));
     left = room.code;
     lobby = omega (arith, r.ready.room.lobby, length-append h.references.objects (e.since ++ text_references (h.machine.regs 6) e.text.strings));
   }
