@@ -1,20 +1,17 @@
 -- The source's command, where it accepts the edit.
-use Rattle.std.proofs.Common.{◌≡◌, ℕ, ◌+◌, ◌≤◌, List, ap, refl, ◌∙◌, subst, map}
-use Rattle.std.specs.Prelude.{nat_le, if◌then◌else◌, Bool, true, Option, Some, Ok, Err, Result}
-use Rattle.std.proofs.lemmas.Bool.{cond-true, le-leb}
+use Rattle.std.proofs.Common.{◌+◌, List, ap, ◌∙◌, subst}
+use Rattle.std.specs.Prelude.{if◌then◌else◌, Bool, Option, Some, Ok, Err}
+use Rattle.std.proofs.lemmas.Bool.{le-leb}
 use Rattle.self_terms.specs.declared.bodies.Body.{Body}
 use Rattle.self_terms.specs.declared.values.Value.{Value}
 use Rattle.self_terms.specs.declared.values.Value.TheVariants as values
 use Rattle.source_model.specs.declared.objects.Content.{Content}
-use Rattle.source_model.specs.declared.objects.Content.TheVariants.{Method}
-use Rattle.source_model.specs.Edits.{TooManyNodes, EditRefusal, own_content, follow, bodies_in, with_method, in_slot, at_path, edited}
+use Rattle.source_model.specs.Edits.{TooManyNodes, bodies_in, with_method, in_slot, at_path, edited}
 use Rattle.source_model.specs.Formed.{IsWellFormed}
-use Rattle.source_model.specs.Names.{number_of}
 use Rattle.source_model.specs.Script.{Edit as EditCommand, Read, edit_done, command}
-use Rattle.source_model.specs.State.{State, Reached, silent}
+use Rattle.source_model.specs.State.{Reached, silent}
 use Rattle.source_model.proofs.Editing.{commands_form}
-use Rattle.plain_edits.specs.Edits.{Edit, IsAccepted}
-use Rattle.plain_edits.specs.Resting.{edited_by, EditsCome, EditsForm}
+use Rattle.plain_edits.specs.Resting.{EditsCome, EditsForm}
 
 pub edits_come : EditsCome
 unfolding command edited

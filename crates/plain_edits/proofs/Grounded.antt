@@ -1,5 +1,5 @@
 -- What an edit rests on, where machine and host stand for a state.
-use Rattle.std.proofs.Common.{◌≡◌, ◌≢◌, ◌⊎◌, inl, inr, ℕ, zero, suc, ◌+◌, ◌-◌, ◌*◌, ◌%◌, ◌<◌, ◌≤◌, refl, ◌∙◌, ap, sym, subst, arith, List, [], ◌∷◌, ◌++◌, length, map}
+use Rattle.std.proofs.Common.{◌≡◌, ◌⊎◌, inl, inr, ℕ, zero, suc, ◌+◌, ◌-◌, ◌<◌, ◌≤◌, refl, ◌∙◌, ap, sym, subst, arith, List, [], ◌∷◌, ◌++◌, length, map}
 use Rattle.std.specs.Prelude.{Option, Some, None, slice_get, option_map}
 use Rattle.std.proofs.lemmas.Option.{same_Some, none-some}
 use Rattle.self_terms.specs.declared.bodies.Body.{Body}
@@ -10,7 +10,6 @@ use Rattle.object_maps.specs.Layout.{map_at}
 use Rattle.object_maps.specs.Slots.{Slots, slots_in, slot_named as kind_named}
 use Rattle.object_maps.specs.Sound.{IsListed, HasListed}
 use Rattle.source_model.specs.declared.objects.Slot.{Slot}
-use Rattle.source_model.specs.declared.objects.Content.{Content}
 use Rattle.source_model.specs.declared.objects.Content.TheVariants.{Method}
 use Rattle.source_model.specs.Objects.{Object, AreNamedOnce, slot_named, replaced, with_slots, changed_at}
 use Rattle.source_model.specs.Canon.{Each}
@@ -21,11 +20,10 @@ use Rattle.source_model.specs.Soundness.{HasBody, IsFit}
 use Rattle.source_model.specs.State.{State}
 use Rattle.source_model.proofs.Keeping.{slice_each, InSome}
 use Rattle.sparc_store.specs.Words.{Words, word_at}
-use Rattle.heap_cells.specs.Shapes.{Cell, Plain, size}
-use Rattle.heap_cells.specs.Laying.{Cells}
+use Rattle.heap_cells.specs.Shapes.{Cell, Plain}
 use Rattle.heap_cells.specs.Source.{Thing, Slotted, Elements, Bytes}
 use Rattle.heap_cells.specs.Standing.{Places, RefersTo}
-use Rattle.heap_cells.specs.Heaps.{IsHeap, IsTold, After}
+use Rattle.heap_cells.specs.Heaps.{IsHeap, After}
 use Rattle.heap_cells.proofs.Rows.{two_words}
 use Rattle.heap_cells.proofs.Stepping.{plain_cell, map_of_cell}
 use Rattle.raw_steps.specs.Stands.{Sense}
@@ -35,11 +33,12 @@ use Rattle.plain_runs.specs.Course.{AllRun}
 use Rattle.plain_steps.specs.Steps.{StandsFor}
 use Rattle.plain_answers.proofs.Whole.{whole_stands}
 use Rattle.world_blocks.specs.Sessions.{block_map, own_block_map, block_maps}
-use Rattle.plain_edits.specs.Heaps.{with_kind, texts_words, text_references, heap_behind}
-use Rattle.plain_edits.specs.Edits.{Edit, edited_map, heap_of, with_edit, IsSaid}
+use Rattle.plain_edits.specs.Heaps.{text_references, heap_behind}
+use Rattle.plain_edits.specs.Edits.{Edit, heap_of, with_edit}
 use Rattle.plain_edits.specs.Resting.{edited_by, IsGiven}
 use Rattle.plain_edits.proofs.Heaps.{heaps_follow_edits}
 use Rattle.plain_edits.proofs.Passing.{Ground}
+use Rattle.plain_edits.proofs.Running.{new_run}
 
 -- The object whose slot is edited.
 pub record IsEditable (s : State) (name o : ℕ) (old : BodyId) : Type 0 where
@@ -114,7 +113,7 @@ module _ (z : Sense) (h : Host) (s : State) (path : List (List ℕ)) (e : Edit) 
     ground run = record {
       fit = subst (λ (bs : List Body). (n : ℕ) → HasBody bs n → IsFit bs n) (sym f.bodies) formed.1.well.bodies;
       run = run;
-      new = x.runs;
+      new = new_run z h s path e o f formed x.accepted x.translate;
       all = x.said.all;
       maps_of = x.knows.numbered;
       outside = outside;

@@ -1,6 +1,6 @@
 -- The host is sound where an edit was made, and its frames show what they did.
-use Rattle.std.proofs.Common.{◌≡◌, ◌≢◌, ℕ, suc, ◌+◌, ◌-◌, ◌*◌, ◌/◌, ◌<◌, ◌≤◌, refl, ◌∙◌, ap, sym, subst, arith, inl}
-use Rattle.std.specs.Prelude.{nat_lt, if◌then◌else◌, Bool, true, List, [], ◌∷◌, Some, slice_get}
+use Rattle.std.proofs.Common.{◌≡◌, ◌≢◌, ℕ, suc, ◌+◌, ◌*◌, ◌/◌, ◌≤◌, refl, ◌∙◌, ap, sym, subst, arith, inl}
+use Rattle.std.specs.Prelude.{nat_lt, if◌then◌else◌, [], ◌∷◌, Some, slice_get}
 use Rattle.std.proofs.lemmas.Grind.{common_steps}
 use Rattle.self_terms.specs.declared.bodies.Body.{Body}
 use Rattle.self_terms.specs.declared.nodes.Node.{Node}
@@ -22,7 +22,7 @@ use Rattle.plain_units.proofs.Points.{at_same}
 use Rattle.plain_units.proofs.Passing.{threads_same, thread_same}
 use Rattle.plain_edits.specs.Heaps.{texts_words}
 use Rattle.plain_edits.specs.Edits.{Edit, with_edit}
-use Rattle.plain_edits.proofs.Passing.{Ground, to as edited, same_body, unit_in, units_in, poll_in, roomy_in, caller_in, held_in, above, high_same, Kept, kept_in, callers_in, saved_in}
+use Rattle.plain_edits.proofs.Passing.{Ground, same_body, units_in, poll_in, roomy_in, caller_in, above, high_same, Kept, kept_in, callers_in, saved_in}
 
 -- the frame in view, at a poll, and its callers, as frames that are held
 view_laid : (h : Host) (b n : ℕ) (node : Node) → AllRun h → (r : RunsAt h b n node)

@@ -8,3 +8,5 @@ pub mod Grounded
 pub mod Mapped
 pub mod Standing
 pub mod Resting
+pub mod Running
+pub mod Beginning

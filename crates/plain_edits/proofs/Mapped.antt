@@ -1,7 +1,7 @@
 -- The maps behind an edit by their numbers.
-use Rattle.std.proofs.Common.{◌≡◌, ◌⊎◌, inl, inr, ℕ, zero, suc, ◌+◌, ◌-◌, ◌<◌, ◌≤◌, refl, ◌∙◌, ap, sym, subst, arith, Bool, true, false, List, [], ◌∷◌, ◌++◌, length, length-append}
-use Rattle.std.specs.Prelude.{Option, Some, None, nat_eq, cond, slice_get, slice_index}
-use Rattle.std.proofs.lemmas.Bool.{cases_lt, cases_eq, eq-eqb}
+use Rattle.std.proofs.Common.{◌≡◌, ◌⊎◌, inl, inr, ℕ, zero, suc, ◌+◌, ◌-◌, ◌<◌, ◌≤◌, refl, ◌∙◌, ap, sym, subst, arith, Bool, true, false, List, [], ◌∷◌, length, length-append}
+use Rattle.std.specs.Prelude.{Option, Some, None, nat_eq, cond, slice_get}
+use Rattle.std.proofs.lemmas.Bool.{cases_lt, eq-eqb}
 use Rattle.std.proofs.lemmas.List.{get_or-append-add, get_or_append_left, get_or_past}
 use Rattle.std.proofs.lemmas.Option.{same_Some, none-some, slice_get_within}
 use Rattle.self_terms.specs.declared.bodies.Body.{Body}
@@ -16,7 +16,7 @@ use Rattle.sparc_store.specs.Words.{Words}
 use Rattle.heap_cells.specs.Heaps.{IsBlockMap}
 use Rattle.plain_runs.specs.Host.{Host}
 use Rattle.world_blocks.specs.Sessions.{block_map, block_maps, number_behind, numbers_from}
-use Rattle.world_blocks.proofs.Mapped.{IsOf, is_of}
+use Rattle.world_blocks.proofs.Mapped.{is_of}
 use Rattle.plain_edits.specs.Edits.{Edit, edited_map, with_edit, KnowsBlocks}
 use Rattle.plain_edits.proofs.Slots.{parents_stay}
 
@@ -37,14 +37,14 @@ pub numbers_long : (next : ℕ) (xs : List Body) → length (numbers_from next x
 numbers_long next [] = refl
 numbers_long next (x ∷ xs) = ap suc (numbers_long (number_behind next x.outer) xs)
 
-no_bare : (body : ℕ) (slots : Slots) → slots ≡ [] → IsBlockMap body slots → ⊥
+pub no_bare : (body : ℕ) (slots : Slots) → slots ≡ [] → IsBlockMap body slots → ⊥
 no_bare body slots e is = let are = is.are in cc
 
-abbrev method_of : SlotKind → ℕ
+abbrev pub method_of : SlotKind → ℕ
 method_of (kind.Method b) = b.0
 method_of _ = 0
 
-abbrev first_method : Slots → ℕ
+abbrev pub first_method : Slots → ℕ
 first_method [] = 0
 first_method (s ∷ ss) = method_of s.1
 

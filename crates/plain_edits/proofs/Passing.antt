@@ -1,11 +1,10 @@
 -- What holds of bodies, units and frames holds where an edit was made.
-use Rattle.std.proofs.Common.{◌≡◌, ◌≢◌, ◌⊎◌, inl, inr, ℕ, zero, suc, ◌+◌, ◌-◌, ◌*◌, ◌/◌, ◌<◌, ◌≤◌, refl, ◌∙◌, ap, sym, subst, arith, length-append}
-use Rattle.std.specs.Prelude.{Bool, true, List, [], ◌∷◌, ◌++◌, length, map, Option, Some, None, slice_get, get_or, unwrap_or}
+use Rattle.std.proofs.Common.{◌≡◌, ◌≢◌, ◌⊎◌, inl, inr, ℕ, zero, suc, ◌+◌, ◌-◌, ◌*◌, ◌<◌, ◌≤◌, refl, ◌∙◌, ap, sym, subst, arith, length-append}
+use Rattle.std.specs.Prelude.{List, [], ◌∷◌, ◌++◌, length, map, Option, Some, None, slice_get, get_or, unwrap_or}
 use Rattle.std.proofs.lemmas.Bool.{cases_lt}
-use Rattle.std.proofs.lemmas.List.{get_or_append_left, length-map}
+use Rattle.std.proofs.lemmas.List.{get_or_append_left}
 use Rattle.std.proofs.lemmas.Option.{slice_get-get_or, slice_get_within, same_Some, none-some, get_or_from_slice_get}
 use Rattle.self_terms.specs.declared.bodies.Body.{Body}
-use Rattle.self_terms.specs.declared.bodies.Local.{Local}
 use Rattle.self_terms.specs.declared.nodes.Node.{Node}
 use Rattle.self_terms.specs.declared.nodes.Node.TheVariants as nodes
 use Rattle.self_terms.specs.declared.values.Datum.{Datum}
@@ -15,17 +14,15 @@ use Rattle.sparc_insn.specs.declared.insn.Insn.{Insn}
 use Rattle.sparc_store.specs.Words.{Words, word_at, HasFrame}
 use Rattle.sparc_store.specs.Windows.{Frame as Window, saved_at}
 use Rattle.source_model.specs.Soundness.{body_in, HasBody, IsFit, Names}
-use Rattle.source_model.specs.Step.{node_at}
 use Rattle.source_model.proofs.MoreBodies.{old_body, no_body}
 use Rattle.heap_cells.proofs.Numbered.{got_left}
-use Rattle.frame_walk.specs.Places.{Descriptor, plain_descriptor}
+use Rattle.frame_walk.specs.Places.{plain_descriptor}
 use Rattle.frame_walk.specs.Walk.{activations, AreLaid, SameBetween}
 use Rattle.frame_walk.proofs.Resting.{rests, laid_as, shown_as, saved_same}
 use Rattle.plain_words.specs.Going.{At, IsCodeFrom}
-use Rattle.plain_words.specs.declared.references.References.{References}
 use Rattle.plain_words.specs.declared.units.Point.{Point}
 use Rattle.plain_words.specs.Units.{datum_word, numbered, frame_words, frame_locals, unit_code, unit_points}
-use Rattle.plain_runs.specs.Host.{Host, first_unit, descriptor_at}
+use Rattle.plain_runs.specs.Host.{Host, descriptor_at}
 use Rattle.plain_runs.specs.Units.{node_offset, HasUnit, IsPoll, IsInPoll, IsBehindCall}
 use Rattle.plain_runs.specs.Sound.{IsRoomy, IsCaller, IsHeld, Calls, Polls, NamesObject, HoldsObject, IsRunnable, ending_stub}
 use Rattle.plain_runs.specs.Course.{AllRun}
@@ -34,8 +31,12 @@ use Rattle.plain_runs.proofs.Pointed.{call_descriptor, in_poll_descriptor}
 use Rattle.plain_runs.proofs.Working.{held_have_room, callers_have_room}
 use Rattle.plain_units.proofs.Points.{at_same}
 use Rattle.plain_edits.specs.Heaps.{text_words, text_references}
-use Rattle.plain_edits.specs.Edits.{Edit, with_edit, NewRun}
+use Rattle.plain_edits.specs.Edits.{Edit, with_edit}
 use Rattle.plain_edits.proofs.Units.{SameNode, SameWords, unit_same, points_same, offset_same}
+
+-- plain code runs each new body
+abbrev pub NewRun : Host → Edit → Type 0
+NewRun h e = (k : ℕ) (x : Body) → slice_get e.bodies k ≡ Some x → IsRunnable (h.next + length e.text.strings) x
 
 -- What the words of an edit rest on: bodies fit and run; units know as many maps as bodies; and words outside the heap are as they were.
 pub record Ground (h : Host) (e : Edit) (memory : Words) : Type 0 where

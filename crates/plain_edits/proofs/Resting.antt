@@ -1,5 +1,5 @@
 -- The session rests again for the state that an accepted edit comes to.
-use Rattle.std.proofs.Common.{◌≡◌, ℕ, zero, suc, ◌+◌, ◌-◌, ◌*◌, ◌<◌, ◌≤◌, refl, ◌∙◌, ap, sym, subst, arith, inl, inr, List, [], ◌∷◌, ◌++◌, length, map, length-append}
+use Rattle.std.proofs.Common.{◌≡◌, ℕ, zero, suc, ◌+◌, ◌-◌, ◌*◌, ◌<◌, refl, ◌∙◌, ap, sym, subst, arith, inl, inr, List, [], ◌∷◌, ◌++◌, length, map, length-append}
 use Rattle.std.specs.Prelude.{Option, Some, None, slice_get, slice_index, unwrap_or}
 use Rattle.std.proofs.lemmas.Bool.{cases_lt}
 use Rattle.std.proofs.lemmas.List.{get_or_append_left, get_or-append-add, length-map}
@@ -13,16 +13,13 @@ use Rattle.source_model.specs.Soundness.{body_in, HasBody, IsFit}
 use Rattle.source_model.specs.State.{State}
 use Rattle.source_model.proofs.MoreBodies.{old_body, no_body}
 use Rattle.sparc_store.specs.Words.{Words}
-use Rattle.heap_cells.specs.Heaps.{IsTold}
-use Rattle.heap_cells.specs.Shapes.{Block}
 use Rattle.heap_cells.proofs.Numbered.{got_if}
-use Rattle.raw_steps.specs.Stands.{Sense}
 use Rattle.plain_runs.specs.Host.{Host}
 use Rattle.plain_runs.proofs.Located.{slice_behind}
-use Rattle.plain_steps.specs.Paying.{IsPaid, IsBlocksMap, HasMaps}
+use Rattle.plain_steps.specs.Paying.{IsBlocksMap, HasMaps}
 use Rattle.plain_steps.specs.Steps.{StandsFor}
 use Rattle.plain_stretches.specs.Stretches.{AreFit}
-use Rattle.plain_turns.specs.Resting.{IsReady, Rests}
+use Rattle.plain_turns.specs.Resting.{Rests}
 use Rattle.plain_turns.specs.Rooms.{HasRoom}
 use Rattle.world_blocks.specs.Sessions.{block_map, own_block_map, block_maps, own_number, number_behind, numbers_from}
 use Rattle.plain_edits.specs.Heaps.{texts_words, text_references}

@@ -1,9 +1,8 @@
 -- Machine and host with an edit stand for the state that it comes to.
-use Rattle.std.proofs.Common.{◌≡◌, inl, inr, ℕ, zero, suc, ◌+◌, ◌-◌, ◌*◌, ◌<◌, ◌≤◌, refl, ◌∙◌, ap, sym, subst, arith, Bool, List, [], ◌∷◌, ◌++◌, length, map}
+use Rattle.std.proofs.Common.{◌≡◌, inl, inr, ℕ, ◌+◌, ◌-◌, ◌*◌, ◌<◌, ◌≤◌, refl, ◌∙◌, ap, sym, subst, arith, List, [], ◌∷◌, ◌++◌, length}
 use Rattle.std.specs.Prelude.{Option, Some, None, slice_get, unwrap_or}
 use Rattle.std.specs.List.{list_any}
 use Rattle.std.proofs.lemmas.Bool.{cases_lt}
-use Rattle.std.proofs.lemmas.Option.{slice_get_within}
 use Rattle.self_terms.specs.declared.bodies.Body.{Body}
 use Rattle.self_terms.specs.declared.values.BodyId.{BodyId}
 use Rattle.object_maps.specs.declared.layout.Heap.{Heap}
@@ -24,26 +23,24 @@ use Rattle.source_model.proofs.MoreBodies.{old_body, no_body}
 use Rattle.sparc_store.specs.Words.{Words}
 use Rattle.heap_cells.specs.Shapes.{Cell, Plain, words_of}
 use Rattle.heap_cells.specs.Laying.{Cells, Laid}
-use Rattle.heap_cells.specs.Source.{Thing, Slotted, fields, Made, Owner, Live}
-use Rattle.heap_cells.specs.Standing.{Places, AreValues, AreKinds, Grows}
+use Rattle.heap_cells.specs.Source.{Thing, Slotted, fields, Made}
+use Rattle.heap_cells.specs.Standing.{Places, AreValues, AreKinds}
 use Rattle.heap_cells.specs.Heaps.{IsBlockMap, IsHeap, After}
 use Rattle.heap_cells.proofs.Growing.{thing_grows}
 use Rattle.heap_cells.proofs.Numbered.{got_left}
 use Rattle.frame_walk.specs.Places.{Frame}
 use Rattle.frame_walk.specs.Raw.{Thread, Going, Answered, Failed}
 use Rattle.raw_steps.specs.Meeting.{HasCore}
-use Rattle.raw_steps.specs.Stands.{Sense, makes_blocks, IsActivation, AreActivations, IsActivity, IsLive, Stands}
+use Rattle.raw_steps.specs.Stands.{Sense, makes_blocks, AreActivations, IsActivity, IsLive, Stands}
 use Rattle.raw_steps.proofs.Staying.{activity_stays}
 use Rattle.plain_runs.specs.Host.{Host, heap_words, raw_of, threads_from}
 use Rattle.plain_runs.specs.Sound.{IsHosted}
 use Rattle.plain_runs.specs.Course.{AllRun}
 use Rattle.plain_runs.proofs.Located.{slice_front, slice_behind}
 use Rattle.plain_steps.specs.Steps.{StandsFor}
-use Rattle.plain_steps.specs.Paying.{IsPaid}
 use Rattle.plain_answers.proofs.Storing.{InHeap, same_word}
 use Rattle.plain_begins.specs.Begins.{CanPark}
-use Rattle.world_blocks.specs.Sessions.{block_map}
-use Rattle.plain_edits.specs.Heaps.{texts_words, text_references, heap_behind}
+use Rattle.plain_edits.specs.Heaps.{text_references, heap_behind}
 use Rattle.plain_edits.specs.Edits.{Edit, heap_of, with_edit}
 use Rattle.plain_edits.specs.Resting.{edited_by, IsGiven, HasEdited, EditsStand, EditsPay}
 use Rattle.plain_edits.proofs.Passing.{Ground, all_run}

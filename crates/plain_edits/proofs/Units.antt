@@ -1,5 +1,5 @@
 -- The words of a unit are the same where units know more objects and more maps of blocks.
-use Rattle.std.proofs.Common.{◌≡◌, ℕ, zero, suc, ◌+◌, ◌-◌, ◌*◌, ◌<◌, ◌≤◌, ap, sym, refl, ◌∙◌, arith, Bool, List, [], ◌∷◌, ◌++◌, length, map}
+use Rattle.std.proofs.Common.{◌≡◌, ℕ, zero, suc, ◌+◌, ◌*◌, ap, refl, ◌∙◌, Bool, List, [], ◌∷◌, ◌++◌, length, map}
 use Rattle.std.specs.Prelude.{Some, slice_get}
 use Rattle.self_terms.specs.declared.bodies.Body.{Body}
 use Rattle.self_terms.specs.declared.bodies.Local.{Local}

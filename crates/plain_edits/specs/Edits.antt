@@ -17,8 +17,8 @@ use Rattle.source_model.specs.State.{State}
 use Rattle.source_model.specs.Told.{IsSlotText}
 use Rattle.heap_cells.specs.Heaps.{IsBlockMap}
 use Rattle.raw_steps.specs.Stands.{Sense}
+use Rattle.plain_words.specs.Translating.{CanTranslate}
 use Rattle.plain_runs.specs.Host.{Host}
-use Rattle.plain_runs.specs.Sound.{IsRunnable}
 use Rattle.world_blocks.specs.Sessions.{block_maps, numbers_from}
 use Rattle.plain_edits.specs.Heaps.{with_kind, texts_words, text_references, IsEdited}
 
@@ -77,9 +77,9 @@ pub record KnowsBlocks (h : Host) : Type 0 where
   pub numbered : length h.references.blocks ≡ length h.bodies
   pub there : (map b : ℕ) → 3 ≤ map → IsBlockMap b (slots_in h.maps map) → HasBody h.bodies b
 
--- plain code runs each new body
-abbrev pub NewRun : Host → Edit → Type 0
-NewRun h e = (k : ℕ) (x : Body) → slice_get e.bodies k ≡ Some x → IsRunnable (h.next + length e.text.strings) x
+-- the words of each new body fit their fields
+abbrev pub NewTranslate : Edit → Type 0
+NewTranslate e = (k : ℕ) (x : Body) → slice_get e.bodies k ≡ Some x → CanTranslate x
 
 -- memory is that of the edit
 abbrev pub IsMemory : Host → Edit → Words → Type 0

@@ -2,3 +2,4 @@
 pub mod Heaps
 pub mod Edits
 pub mod Resting
+pub mod Beginning

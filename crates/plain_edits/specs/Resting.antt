@@ -18,7 +18,7 @@ use Rattle.plain_begins.specs.Begins.{CanPark}
 use Rattle.plain_turns.specs.Resting.{Rests}
 use Rattle.plain_turns.specs.Rooms.{unput}
 use Rattle.plain_edits.specs.Heaps.{texts_words}
-use Rattle.plain_edits.specs.Edits.{Edit, with_edit, IsAccepted, IsSaid, KnowsBlocks, NewRun, IsMemory}
+use Rattle.plain_edits.specs.Edits.{Edit, with_edit, IsAccepted, IsSaid, KnowsBlocks, NewTranslate, IsMemory}
 
 -- the state that the edit comes to
 abbrev pub edited_by : Edit → ℕ → State → State
@@ -31,14 +31,14 @@ EditsCome = (q : Reached) (path : List (List ℕ)) (e : Edit) (o : ℕ) → IsAc
 abbrev pub EditsForm : Type 0
 EditsForm = (s : State) (path : List (List ℕ)) (e : Edit) (o : ℕ) → IsAccepted s path e o → IsWellFormed s → IsWellFormed (edited_by e o s)
 
--- What is given where an edit in words is that of the source: it is accepted, its words stand for what it says, its strings are of bytes, its bodies
--- run, and memory is as it leaves it.
+-- What is given where an edit in words is that of the source: it is accepted, its words stand for what it says, its strings are of bytes, the words
+-- of its bodies fit their fields, and memory is as it leaves it.
 pub record IsGiven (z : Sense) (h : Host) (s : State) (path : List (List ℕ)) (e : Edit) (o : ℕ) (memory : Words) : Type 0 where
   pub accepted : IsAccepted s path e o
   pub said : IsSaid z h s e o
   pub knows : KnowsBlocks h
   pub bytes : Each AreBytes e.text.strings
-  pub runs : NewRun h e
+  pub translate : NewTranslate e
   pub leaves : IsMemory h e memory
 
 -- Machine and host then stand for the state that the edit comes to, the host is sound, all bodies run, and what stood for a value still does.

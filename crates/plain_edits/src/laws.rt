@@ -1,4 +1,5 @@
 // Laws of edits while a session rests.
+ghost use Rattle.plain_edits.specs.Beginning.{SessionsKnowBlocks};
 ghost use Rattle.plain_edits.specs.Heaps.{HeapsFollowEdits};
 ghost use Rattle.plain_edits.specs.Resting.{EditsCome, EditsForm, EditsPay, EditsRest, EditsStand};
 
@@ -22,4 +23,9 @@ pub fn edits_stand()
 /// A law: the session rests again, for that state, where there is room.
 pub fn edits_rest()
     ensures { EditsRest }
+{}
+
+/// A law: a session over a world knows the maps of blocks where it begins.
+pub fn sessions_know_blocks()
+    ensures { SessionsKnowBlocks }
 {}
