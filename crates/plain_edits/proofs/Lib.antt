@@ -10,3 +10,4 @@ pub mod Standing
 pub mod Resting
 pub mod Running
 pub mod Beginning
+pub mod Strings

@@ -11,7 +11,8 @@ use Rattle.source_model.specs.Objects.{Object, AreNamedOnce, slot_named, replace
 use Rattle.source_model.specs.declared.objects.Slot.{Slot}
 use Rattle.source_model.specs.declared.objects.Content.TheVariants.{Method}
 use Rattle.source_model.specs.Canon.{Each}
-use Rattle.sparc_store.specs.Words.{Words, word_at, IsWithin}
+use Rattle.sparc_store.specs.Words.{Words, word_at, IsWithin, Stored}
+use Rattle.heap_cells.specs.Cloning.{IsWritten}
 use Rattle.heap_cells.specs.Shapes.{Text, words_of}
 use Rattle.heap_cells.specs.Laying.{Cells, Holds}
 use Rattle.heap_cells.specs.Source.{Thing, Slotted, Bytes, Made}
@@ -62,3 +63,14 @@ HeapsFollowEdits =
     → IsEdited mem new heap word (length maps) strings
     → After (maps ++ with_kind name (kind.Method b) (slots_in maps (map_at mem word)) ∷ more) new (heap_behind strings heap) h p (record p { objects = p.objects ++ text_references heap.top strings })
     (changed_at (with_slots (replaced name (Method b))) o (things ++ map Bytes strings)) made
+
+-- Strings are written one after the other from an address on, the first with this number.
+abbrev pub AreWritten : Words → Words → ℕ → ℕ → List (List ℕ) → Type 0
+AreWritten old new at number [] = new ≡ old
+AreWritten old new at number (x ∷ xs) = (mid : Words) × (IsWritten old mid at number x × AreWritten mid new (at + 4 * text_words x) (number + 1) xs)
+
+-- Where that was done at the heap's top, and then the object's word for its map was stored, memory is that of the edit, and the strings are of bytes.
+abbrev pub EditsAreWritten : Type 0
+EditsAreWritten =
+    (old mid new : Words) (heap : Heap) (word map : ℕ) (strings : List (List ℕ)) → AreWritten old mid heap.top heap.next strings → Stored mid new (word - 1) (4 * map) → IsWithin new → word - 1 < heap.top
+    → heap.top + 4 * texts_words strings ≤ 0x20000000 + 46137344 → IsEdited old new heap word map strings × Each AreBytes strings

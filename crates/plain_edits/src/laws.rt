@@ -1,11 +1,16 @@
 // Laws of edits while a session rests.
 ghost use Rattle.plain_edits.specs.Beginning.{SessionsKnowBlocks};
-ghost use Rattle.plain_edits.specs.Heaps.{HeapsFollowEdits};
+ghost use Rattle.plain_edits.specs.Heaps.{EditsAreWritten, HeapsFollowEdits};
 ghost use Rattle.plain_edits.specs.Resting.{EditsCome, EditsForm, EditsPay, EditsRest, EditsStand};
 
 /// A law: the heap with a new map of an object, and with the words of new strings, stands for the objects that an edit leaves.
 pub fn heaps_follow_edits()
     ensures { HeapsFollowEdits }
+{}
+
+/// A law: strings that are written one after the other at the heap's top, and then the stored number of the object's new map, leave memory so.
+pub fn edits_are_written()
+    ensures { EditsAreWritten }
 {}
 
 /// A law: where the source accepts an edit, its command comes to the state that the edit leaves, which is well formed.

@@ -9,4 +9,6 @@
 
 mod laws;
 
-pub use laws::{edits_come, edits_rest, edits_stand, heaps_follow_edits, sessions_know_blocks};
+pub use laws::{
+    edits_are_written, edits_come, edits_rest, edits_stand, heaps_follow_edits, sessions_know_blocks,
+};
