@@ -11,3 +11,4 @@ pub mod Resting
 pub mod Running
 pub mod Beginning
 pub mod Strings
+pub mod Order

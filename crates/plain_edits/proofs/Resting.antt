@@ -1,5 +1,5 @@
 -- The session rests again for the state that an accepted edit comes to.
-use Rattle.std.proofs.Common.{◌≡◌, ℕ, zero, suc, ◌+◌, ◌-◌, ◌*◌, ◌<◌, refl, ◌∙◌, ap, sym, subst, arith, inl, inr, List, [], ◌∷◌, ◌++◌, length, map, length-append}
+use Rattle.std.proofs.Common.{◌≡◌, ℕ, zero, suc, ◌+◌, ◌-◌, ◌<◌, refl, ◌∙◌, ap, sym, subst, arith, inl, inr, List, [], ◌∷◌, ◌++◌, length, map, length-append}
 use Rattle.std.specs.Prelude.{Option, Some, None, slice_get, slice_index, unwrap_or}
 use Rattle.std.proofs.lemmas.Bool.{cases_lt}
 use Rattle.std.proofs.lemmas.List.{get_or_append_left, get_or-append-add, length-map}
@@ -22,13 +22,13 @@ use Rattle.plain_stretches.specs.Stretches.{AreFit}
 use Rattle.plain_turns.specs.Resting.{Rests}
 use Rattle.plain_turns.specs.Rooms.{HasRoom}
 use Rattle.world_blocks.specs.Sessions.{block_map, own_block_map, block_maps, own_number, number_behind, numbers_from}
-use Rattle.plain_edits.specs.Heaps.{texts_words, text_references}
+use Rattle.plain_edits.specs.Heaps.{text_references}
 use Rattle.plain_edits.specs.Edits.{Edit, edited_map, with_edit}
-use Rattle.plain_edits.specs.Resting.{edited_by, IsGiven, HasRoomFor, HasEdited, EditsRest}
+use Rattle.plain_edits.specs.Resting.{edited_by, IsGiven, paid_from, HasRoomFor, HasEdited, EditsRest}
 use Rattle.plain_edits.proofs.Coming.{edits_form}
 use Rattle.plain_edits.proofs.Grounded.{is_heap, no_zero}
 use Rattle.plain_edits.proofs.Mapped.{in_front, behind}
-use Rattle.plain_edits.proofs.Standing.{edits_stand, edits_pay}
+use Rattle.plain_edits.proofs.Standing.{edits_stand, edits_pay_anew}
 
 -- The map of a body's blocks stands where its number says.
 record IsAt (names : List (List ℕ)) (traits : ℕ) (b next : ℕ) (xs : List Body) (k : ℕ) (x : Body) : Type 0 where
@@ -70,7 +70,7 @@ module _ (names : List (List ℕ)) (traits : ℕ) where
       subst (λ (q : Body). IsAt names traits b next (y ∷ xs) 0 q) same (at_first b next y xs outer (ap (λ (q : Body). q.outer) same ∙ is))
   is_at b next (y ∷ xs) (suc k) x outer there is = at_next b next y xs k x y.outer refl (is_at (b + 1) (number_behind next y.outer) xs k x outer there is)
 
-module _ (h : Host) (s : State) (path : List (List ℕ)) (e : Edit) (o : ℕ) (memory : Words) (r : Rests h s) (x : IsGiven r.sense h s path e o memory) (room : HasRoomFor r.start h e memory) where
+module _ (h : Host) (s : State) (path : List (List ℕ)) (e : Edit) (o : ℕ) (memory : Words) (r : Rests h s) (x : IsGiven r.sense h s path e o memory) (room : HasRoomFor h e memory) where
   abbrev to : Host
   to = with_edit e memory h
 
@@ -145,8 +145,8 @@ module _ (h : Host) (s : State) (path : List (List ℕ)) (e : Edit) (o : ℕ) (m
     parks = done.parks;
     formed = formed;
     ready = record { fit = fit_in; room = room_in; maps = maps_in };
-    start = r.start + 4 * texts_words e.text.strings;
-    paid = edits_pay r.sense h s path e o r.start memory stands r.formed x room.heap r.paid;
+    start = paid_from h e;
+    paid = edits_pay_anew r.sense h s path e o r.start memory stands r.formed x room.heap r.paid;
   }
 
 pub edits_rest : EditsRest

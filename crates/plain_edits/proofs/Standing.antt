@@ -42,7 +42,7 @@ use Rattle.plain_answers.proofs.Storing.{InHeap, same_word}
 use Rattle.plain_begins.specs.Begins.{CanPark}
 use Rattle.plain_edits.specs.Heaps.{text_references, heap_behind}
 use Rattle.plain_edits.specs.Edits.{Edit, heap_of, with_edit}
-use Rattle.plain_edits.specs.Resting.{edited_by, IsGiven, HasEdited, EditsStand, EditsPay}
+use Rattle.plain_edits.specs.Resting.{edited_by, IsGiven, HasEdited, EditsStand, EditsPay, EditsPayAnew}
 use Rattle.plain_edits.proofs.Passing.{Ground, all_run}
 use Rattle.plain_edits.proofs.Hosting.{hosted_in, threads_in, parks_in}
 use Rattle.plain_edits.proofs.Grounded.{is_heap, no_zero, outside, ground, after}
@@ -261,5 +261,12 @@ pub edits_pay : EditsPay
 edits_pay z h s path e o start memory f formed x room p = record {
   room = room;
   top = omega (arith, p.top);
+  left = ap (λ (w : ℕ). w + h.cost) (outside z h s path e o memory f x formed 0x30000004 (inr (omega arith))) ∙ p.left;
+}
+
+pub edits_pay_anew : EditsPayAnew
+edits_pay_anew z h s path e o start memory f formed x room p = record {
+  room = omega (arith, room);
+  top = omega arith;
   left = ap (λ (w : ℕ). w + h.cost) (outside z h s path e o memory f x formed 0x30000004 (inr (omega arith))) ∙ p.left;
 }

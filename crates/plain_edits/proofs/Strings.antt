@@ -1,6 +1,6 @@
 -- Strings that are put one after the other, and then a word that is stored, leave memory as an edit does.
-use Rattle.std.proofs.Common.{◌≡◌, ◌⊎◌, inl, inr, refl, sym, ap, subst, ◌∙◌, ℕ, zero, suc, ◌+◌, ◌-◌, ◌*◌, ◌/◌, ◌<◌, ◌≤◌, List, [], ◌∷◌, length, arith}
-use Rattle.sparc_store.specs.Words.{Words, word_at, Stored}
+use Rattle.std.proofs.Common.{◌≡◌, ◌⊎◌, inl, inr, sym, ap, ◌∙◌, ℕ, zero, suc, ◌+◌, ◌*◌, ◌/◌, ◌<◌, ◌≤◌, List, [], ◌∷◌, length, arith}
+use Rattle.sparc_store.specs.Words.{Words, word_at}
 use Rattle.source_model.specs.Canon.{Each}
 use Rattle.heap_cells.specs.Shapes.{Text, words_of}
 use Rattle.heap_cells.specs.Laying.{Holds}

@@ -65,7 +65,7 @@ pub record IsAccepted (s : State) (path : List (List ℕ)) (e : Edit) (o : ℕ) 
   pub small : s.size + e.text.size ≤ 65536
 
 -- The words of the edit stand for what it says: names and references are those of the state.
-pub record IsSaid (z : Sense) (h : Host) (s : State) (e : Edit) (o : ℕ) : Type 0 where
+pub record IsWorded (z : Sense) (h : Host) (s : State) (e : Edit) (o : ℕ) : Type 0 where
   pub names : e.names ≡ s.names
   pub traits : slice_get z.places.objects s.core.blocks ≡ Some e.traits
   pub word : slice_get z.places.objects o ≡ Some e.word

@@ -3,3 +3,4 @@ pub mod Heaps
 pub mod Edits
 pub mod Resting
 pub mod Beginning
+pub mod Order

@@ -1,5 +1,5 @@
 -- A session rests, and rests again for the state that an accepted edit comes to.
-use Rattle.std.specs.Prelude.{◌≡◌, ℕ, ◌+◌, ◌*◌, ◌^◌, ◌<◌, ◌≤◌, List, length, codes}
+use Rattle.std.specs.Prelude.{◌≡◌, ℕ, ◌+◌, ◌-◌, ◌*◌, ◌^◌, ◌<◌, ◌≤◌, List, length, codes}
 use Rattle.sparc_store.specs.Words.{Words}
 use Rattle.source_model.specs.Canon.{Each}
 use Rattle.source_model.specs.Edits.{with_method}
@@ -18,7 +18,7 @@ use Rattle.plain_begins.specs.Begins.{CanPark}
 use Rattle.plain_turns.specs.Resting.{Rests}
 use Rattle.plain_turns.specs.Rooms.{unput}
 use Rattle.plain_edits.specs.Heaps.{texts_words}
-use Rattle.plain_edits.specs.Edits.{Edit, with_edit, IsAccepted, IsSaid, KnowsBlocks, NewTranslate, IsMemory}
+use Rattle.plain_edits.specs.Edits.{Edit, with_edit, IsAccepted, IsWorded, KnowsBlocks, NewTranslate, IsMemory}
 
 -- the state that the edit comes to
 abbrev pub edited_by : Edit → ℕ → State → State
@@ -35,7 +35,7 @@ EditsForm = (s : State) (path : List (List ℕ)) (e : Edit) (o : ℕ) → IsAcce
 -- of its bodies fit their fields, and memory is as it leaves it.
 pub record IsGiven (z : Sense) (h : Host) (s : State) (path : List (List ℕ)) (e : Edit) (o : ℕ) (memory : Words) : Type 0 where
   pub accepted : IsAccepted s path e o
-  pub said : IsSaid z h s e o
+  pub said : IsWorded z h s e o
   pub knows : KnowsBlocks h
   pub bytes : Each AreBytes e.text.strings
   pub translate : NewTranslate e
@@ -59,10 +59,20 @@ abbrev pub EditsPay : Type 0
 EditsPay = (z : Sense) (h : Host) (s : State) (path : List (List ℕ)) (e : Edit) (o start : ℕ) (memory : Words) → StandsFor z h s → IsWellFormed s → IsGiven z h s path e o memory
     → start + 4 * texts_words e.text.strings + 4 * 4194304 ≤ 0x20000000 + 46137344 → IsPaid start h → IsPaid (start + 4 * texts_words e.text.strings) (with_edit e memory h)
 
--- There is room: in the heap behind the strings for all that may be paid, in the code region for the units of the new bodies, and in numbers for these and
--- for the maps.
-pub record HasRoomFor (start : ℕ) (h : Host) (e : Edit) (memory : Words) : Type 0 where
-  pub heap : start + 4 * texts_words e.text.strings + 4 * 4194304 ≤ 0x20000000 + 46137344
+-- The heap has room behind the strings for all that is left to pay.
+abbrev pub HasHeapFor : Host → Edit → Type 0
+HasHeapFor h e = h.machine.regs 6 + 4 * texts_words e.text.strings + 4 * 4194304 ≤ 0x20000000 + 46137344 + 4 * (h.cost + h.machine.regs 3)
+
+-- So much tells machine and host: wherever its room was paid for from before, the heap's room is then paid for from a place that its top tells.
+abbrev pub paid_from : Host → Edit → ℕ
+paid_from h e = h.machine.regs 6 + 4 * texts_words e.text.strings - 4 * (h.cost + h.machine.regs 3)
+
+abbrev pub EditsPayAnew : Type 0
+EditsPayAnew = (z : Sense) (h : Host) (s : State) (path : List (List ℕ)) (e : Edit) (o start : ℕ) (memory : Words) → StandsFor z h s → IsWellFormed s → IsGiven z h s path e o memory → HasHeapFor h e → IsPaid start h → IsPaid (paid_from h e) (with_edit e memory h)
+
+-- There is room: in the heap, in the code region for the units of the new bodies, and in numbers for these and for the maps.
+pub record HasRoomFor (h : Host) (e : Edit) (memory : Words) : Type 0 where
+  pub heap : HasHeapFor h e
   pub code : length h.points + unput (with_edit e memory h).entries (with_edit e memory h).bodies ≤ 8388352
   pub maps : length (with_edit e memory h).maps < 2 ^ 30
   pub bodies : length (with_edit e memory h).bodies < 2 ^ 30
@@ -73,4 +83,4 @@ pub record RestsEdited (h : Host) (s : State) (e : Edit) (o : ℕ) (memory : Wor
   pub knows : KnowsBlocks (with_edit e memory h)
 
 abbrev pub EditsRest : Type 0
-EditsRest = (h : Host) (s : State) (path : List (List ℕ)) (e : Edit) (o : ℕ) (memory : Words) → (r : Rests h s) → IsGiven r.sense h s path e o memory → HasRoomFor r.start h e memory → RestsEdited h s e o memory
+EditsRest = (h : Host) (s : State) (path : List (List ℕ)) (e : Edit) (o : ℕ) (memory : Words) → (r : Rests h s) → IsGiven r.sense h s path e o memory → HasRoomFor h e memory → RestsEdited h s e o memory

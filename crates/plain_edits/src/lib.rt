@@ -10,5 +10,6 @@
 mod laws;
 
 pub use laws::{
-    edits_are_written, edits_come, edits_rest, edits_stand, heaps_follow_edits, sessions_know_blocks,
+    edits_are_written, edits_come, edits_rest, edits_stand, heaps_follow_edits, objects_in_order,
+    sessions_know_blocks,
 };
