@@ -11,7 +11,6 @@ use Rattle.object_maps.specs.declared.maps.SlotKind.TheVariants as kind
 use Rattle.object_maps.specs.Layout.{map_at}
 use Rattle.object_maps.specs.Slots.{Slots, slots_in, slot_named}
 use Rattle.source_model.specs.Soundness.{HasBody}
-use Rattle.source_model.specs.declared.objects.Content.TheVariants.{Method}
 use Rattle.sparc_store.specs.Words.{Words}
 use Rattle.heap_cells.specs.Heaps.{IsBlockMap}
 use Rattle.plain_runs.specs.Host.{Host}
