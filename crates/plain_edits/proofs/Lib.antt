@@ -1,0 +1,14 @@
+pub mod Slots
+pub mod Heaps
+pub mod Coming
+pub mod Units
+pub mod Passing
+pub mod Hosting
+pub mod Grounded
+pub mod Mapped
+pub mod Standing
+pub mod Resting
+pub mod Running
+pub mod Beginning
+pub mod Strings
+pub mod Order
