@@ -1,6 +1,6 @@
 -- What own slots over words hold, and which data words are.
-use Rattle.std.proofs.Common.{◌≡◌, inl, inr, refl, sym, ap, subst, ◌∙◌, ℕ, zero, suc, ◌+◌, ◌-◌, ◌*◌, ◌/◌, ◌%◌, ◌<◌, ◌≤◌, Bool, true, false, List, [], ◌∷◌, length, get_or, arith, nat_eq}
-use Rattle.std.specs.Prelude.{ℤ, Option, Some, None, slice_get, ◌==◌, ◌&&◌, ◌||◌, nat_le, is_none, cond, option_map}
+use Rattle.std.proofs.Common.{◌≡◌, refl, sym, ap, subst, ◌∙◌, ℕ, zero, suc, ◌+◌, ◌-◌, ◌*◌, ◌/◌, ◌%◌, ◌<◌, ◌≤◌, Bool, true, false, List, [], ◌∷◌, length, arith, nat_eq}
+use Rattle.std.specs.Prelude.{ℤ, Option, Some, None, slice_get, ◌==◌, ◌&&◌, ◌||◌, is_none, cond, option_map}
 use Rattle.std.proofs.lemmas.Bool.{cond-true, cond-false, eq-eqb, ne_eqb, le-leb, false≢true}
 use Rattle.std.proofs.lemmas.Option.{slice_get_within}
 use Rattle.self_terms.specs.declared.values.Value.{Value}
@@ -22,7 +22,7 @@ use Rattle.object_maps.specs.Slots.{Slots, slots_in, slot_named as kind_named}
 use Rattle.object_maps.specs.Layout.{map_at, number_at}
 use Rattle.object_maps.specs.Sound.{IsValue as IsSoundValue}
 use Rattle.sparc_store.specs.Words.{Words, word_at, HasWord}
-use Rattle.heap_cells.specs.Shapes.{Cell, Plain, Vector, Text, Block, Context, map_in}
+use Rattle.heap_cells.specs.Shapes.{Cell, Plain, Vector, Text, Block, map_in}
 use Rattle.heap_cells.specs.Laying.{Cells}
 use Rattle.heap_cells.specs.Source.{Thing, Slotted, Elements, Bytes, fields, held, Made}
 use Rattle.heap_cells.specs.Standing.{Places, RefersTo, IsValue, AreValues, IsKind, AreKinds, IsThing, behind}
@@ -30,9 +30,8 @@ use Rattle.heap_cells.specs.Heaps.{IsHeap, IsBlockMap, IsTold}
 use Rattle.heap_cells.proofs.Fielding.{values_length, value_at}
 use Rattle.heap_cells.proofs.Looking.{name_test}
 use Rattle.heap_cells.proofs.Numbered.{got_if}
-use Rattle.heap_cells.proofs.Stepping.{cell_word, map_of_cell, plain_cell}
+use Rattle.heap_cells.proofs.Stepping.{cell_word, map_of_cell}
 use Rattle.heap_cells.proofs.Reading.{cell_has_word, integer_aligned, heap_sound, value_sound}
-use Rattle.plain_paths.specs.declared.slots.OwnSlot.{OwnSlot}
 use Rattle.plain_paths.specs.declared.slots.OwnSlot.TheVariants as own
 use Rattle.plain_paths.specs.Paths.{IsOfHeap, is_plain, plain_slot, held_by, own_at, object_datum, datum_of}
 use Rattle.plain_paths.specs.Laws.{IsHeld}

@@ -1,10 +1,9 @@
 -- What paths over words lead to.
-use Rattle.std.proofs.Common.{◌≡◌, refl, sym, ap, subst, ◌∙◌, ℕ, Bool, true, false, List, [], ◌∷◌}
-use Rattle.std.specs.Prelude.{ℤ, Option, Some, None, slice_get, ◌==◌, cond, fold, map, drop, option_and_then, codes}
+use Rattle.std.proofs.Common.{◌≡◌, refl, sym, subst, ◌∙◌, ℕ, Bool, true, false, List, [], ◌∷◌}
+use Rattle.std.specs.Prelude.{ℤ, Option, Some, None, slice_get, ◌==◌, cond, fold, option_and_then, codes}
 use Rattle.std.proofs.lemmas.Option.{same_Some, none-some}
 use Rattle.self_terms.specs.declared.values.Value.{Value}
 use Rattle.self_terms.specs.declared.values.Value.TheVariants as values
-use Rattle.self_terms.specs.declared.values.Datum.{Datum}
 use Rattle.self_terms.specs.Words.{IsSmall, word_of, int_of}
 use Rattle.source_model.specs.declared.objects.Content.{Content}
 use Rattle.source_model.specs.declared.objects.Content.TheVariants.{Constant, Assignable, Assignment, Parent, Method}

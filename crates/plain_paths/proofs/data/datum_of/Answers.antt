@@ -1,4 +1,3 @@
-use Rattle.std.proofs.Common.{◌≡◌, ◌∙◌, ◌+◌, ◌*◌, sym, ap, arith}
 use Rattle.std.proofs.lemmas.Bool.{false≢true}
 use Rattle.plain_paths.proofs.Held.{sound, numbered_here}
 use Rattle.plain_paths.proofs.data.datum_of.Goals as goal

@@ -1,4 +1,4 @@
-use Rattle.std.proofs.Common.{◌≡◌, ◌∙◌, sym, ap}
+use Rattle.std.proofs.Common.{◌∙◌, sym, ap}
 use Rattle.plain_paths.specs.Paths.{data_of}
 use Rattle.plain_paths.proofs.Reached.{next_stands}
 use Rattle.plain_paths.proofs.paths.further.Goals as goal

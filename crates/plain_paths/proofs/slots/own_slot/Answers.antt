@@ -1,4 +1,4 @@
-use Rattle.std.proofs.Common.{◌≡◌, ◌∙◌, ◌+◌, ◌*◌, sym, ap, arith}
+use Rattle.std.proofs.Common.{◌∙◌, ◌+◌, ◌*◌, sym, ap, arith}
 use Rattle.std.specs.Prelude.{Some}
 use Rattle.object_maps.specs.Slots.{slots_in, slot_named}
 use Rattle.plain_paths.specs.Paths.{is_plain}
