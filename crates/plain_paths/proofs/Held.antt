@@ -222,8 +222,7 @@ module _ (maps : List Slots) (mem : Words) (heap : Heap) (h : Cells) (p : Places
       let i = is.laid.inside (w - 1) (Plain n map words) there.1 in
       let below = i.below in
       let above = i.above in
-      let within = is.laid.end.within in
-      (
+      let within = is.laid.end.within in (
         subst (λ (z : ℕ). IsValue h p v z) (sym word) (value_at h p vs words place v are at),
         record { word = cell_has_word mem heap.top w (suc (suc place)) (w + 7 + 4 * place) h (Plain n map words) is.laid there (omega arith) (omega arith); below = omega arith },
       )

@@ -46,7 +46,7 @@ next_stands maps mem from name word o e =
     let held = value_held maps mem o.heap o.cells o.places o.things o.made o.is o.value from name o.stands in
     let content = content_of o.things o.value name in
     let u = reached_value o.cells o.places (option_and_then data_in content) (data_of (own_at maps mem from name)) word
-        (data_reached o.cells o.places content (own_at maps mem from name) held) e in
+    (data_reached o.cells o.places content (own_at maps mem from name) held) e in
     record { heap = o.heap; cells = o.cells; places = o.places; things = o.things; made = o.made; is = o.is; value = u.0; stands = u.1 }
 
 -- from nothing nothing is reached

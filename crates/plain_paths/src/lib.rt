@@ -1,8 +1,11 @@
 // Paths followed over the words of a running program.
 //
-// A path is a list of names. It leads from the lobby through the present contents of own slots of plain objects; as the first name
-// `lobby` is the lobby itself. `specs/Paths.antt` says what stands at a path, what an own slot holds and which data a word stands
-// for, over maps and words alone; `specs/Laws.antt` that this is what the source's definitions say, wherever the words stand for its objects.
+// A path is a list of names. It leads from the lobby through the present contents of own slots of
+// plain objects; as the first name `lobby` is the lobby itself.
+// Model: `specs/Paths.antt` says what stands at a path, what an own slot holds and which data a word
+// is, over maps and words alone.
+// Promise: this is what is read off the words, and it is what the source says (`specs/Laws.antt`),
+// wherever the words stand for the source's objects.
 #![tactic(auto)]
 
 mod data;

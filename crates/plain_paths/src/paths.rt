@@ -41,7 +41,8 @@ fn root(maps: &Maps, mem: &Memory, lobby: Word, lobby_name: Name, name: Name) ->
     further(maps, mem, lobby, name)
 }
 
-/// The word at a path, which leads from the lobby through own slots; none where a name on the way is missing or is no data.
+/// The word at a path, which leads from the lobby through own slots; none where a name on the way
+/// is missing or is no data.
 pub fn follow(
     maps: &Maps,
     mem: &Memory,

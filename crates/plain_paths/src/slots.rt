@@ -7,8 +7,8 @@ use object_maps::{Maps, SlotKind};
 use self_terms::{BodyId, MapId, Name, Word};
 use sparc_store::Memory;
 
-/// What the own slot of a name holds: nothing, as there is none; a method of a body; data, or a parent, by its word; it is the assignment slot of
-/// another.
+/// What the own slot of a name holds: nothing, as there is none; a method, by its body; data or a
+/// parent, by the word; or it is the assignment slot of another.
 #[derive(Clone, Copy, PartialEq, Eq, Drop, Debug)]
 pub enum OwnSlot {
     Missing,

@@ -15,11 +15,10 @@ returns-in_err-here-clause-word c =
 
 pub loop-at-init : goal.loop-at-init
 loop-at-init c =
-    let some : 0 < length c.args.path.now = (let f = c.if-path-eq0.false in omega arith) in
-    (
+    let some : 0 < length c.args.path.now = (let f = c.if-path-eq0.false in omega arith) in (
       c.root.ensures.stands c.in_ok-here.here c.in_ok-here.was,
       ap (λ z. rest c.args.maps.now c.args.mem.now z c.args.path.now 1) (sym c.in_ok-here.was ∙ c.root.ensures.word)
-      ∙ begun c.args.maps.now c.args.mem.now c.args.lobby c.args.lobby_name.0 c.args.path.now (record { 0 = 0 }) some,
+          ∙ begun c.args.maps.now c.args.mem.now c.args.lobby c.args.lobby_name.0 c.args.path.now (record { 0 = 0 }) some,
     )
 
 pub further-requires : goal.further-requires
@@ -35,7 +34,7 @@ pub loop-at-preserved : goal.loop-at-preserved
 loop-at-preserved c = (
   c.further.ensures.stands c.in_ok-here-2.here c.in_ok-here-2.was,
   ap (λ z. rest c.args.maps.now c.args.mem.now z c.args.path.now (c.loop-at.at + 1)) (sym c.in_ok-here-2.was ∙ c.further.ensures.word)
-  ∙ gone_on c.args.maps.now c.args.mem.now c.args.path.now c.loop-at.at (record { 0 = 0 }) (Some c.loop-at.here) c.loop-at-test.true ∙ c.loop-at.invariant.1,
+      ∙ gone_on c.args.maps.now c.args.mem.now c.args.path.now c.loop-at.at (record { 0 = 0 }) (Some c.loop-at.here) c.loop-at-test.true ∙ c.loop-at.invariant.1,
 )
 
 pub returns-clause-word : goal.returns-clause-word
