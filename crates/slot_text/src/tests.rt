@@ -1,0 +1,1 @@
+// A worked text of an edit, read and told.
