@@ -12,7 +12,7 @@ use Rattle.slot_text.specs.Contents.{AreOfEdit}
 
 pub few_of_edit : (names : List (List ℕ)) (bytes : List ℕ) (items : List Item) → length bytes ≤ 1048576 → AreOfEdit names bytes items → length items ≤ 3000000
 few_of_edit names bytes items short read =
-    let text = read.1.0 in
+    let text = read.1 in
     let bound : length (items_of (edit LIMITS text.0)) ≤ 2 * length (signs read.0 bytes) + 65536 + 1 = few_edit_items LIMITS (signs read.0 bytes) text.0 text.1 in
     let same : length items ≡ length (items_of (edit LIMITS text.0)) = ap (λ is. length is) text.2 in
     let signs : length (signs read.0 bytes) ≡ length (tokens bytes) = length-map (tokens bytes) (sign_of (names_after read.0 bytes (tokens bytes)) bytes) in

@@ -15,5 +15,5 @@ returns-in-Some-local c =
 
 pub loop-up-preserved : goal.loop-up-preserved
 loop-up-preserved c =
-    sym (further_out (sought c.args.assigning c.args.name) c.loop-up.up c.args.self.now.bodies c.args.self.now.around c.in-Some.body (sym c.get.ensures ∙ sym c.copied.ensures ∙ c.in-Some.is) (sym c.local.ensures ∙ c.in_default-local.is))
+    sym (further_out (sought c.args.assigning c.args.name) c.loop-up.up c.args.self.now.bodies c.args.self.now.around c.in-Some.body (sym c.get.ensures ∙ sym c.copied.ensures ∙ c.in-Some.is) (sym c.local.ensures ∙ c.in_default.is))
     ∙ c.loop-up.invariant
