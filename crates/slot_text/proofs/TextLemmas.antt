@@ -1,8 +1,8 @@
 -- The texts of bodies, by rows of what their locals hold.
-use Rattle.std.proofs.Common.{◌≡◌, ℕ, zero, suc, ◌+◌, List, [], ◌∷◌, length, refl, sym, ap, ◌∙◌, arith}
+use Rattle.std.proofs.Common.{◌≡◌, ℕ, zero, suc, ◌+◌, List, [], ◌∷◌, length, refl, ap, ◌∙◌, arith}
 use Rattle.std.specs.Prelude.{None, Some, map, slice_get}
 use Rattle.self_terms.specs.declared.bodies.Body.{Body}
-use Rattle.source_model.specs.Edits.{Initial, BodyText}
+use Rattle.source_model.specs.Edits.{Initial}
 use Rattle.world_build.specs.SlotParts.{built_of}
 use Rattle.world_build.specs.SlotTexts.{locals_with, initials_of, body_text, body_texts, text_of_thing}
 use Rattle.slot_text.specs.declared.contents.InitialTold.{InitialTold}

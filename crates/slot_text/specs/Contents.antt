@@ -1,5 +1,5 @@
 -- How what an edit's text says is read off: what locals hold at first, and the text of a body.
-use Rattle.std.specs.Prelude.{◌≡◌, ℕ, List, [], ◌∷◌, map, length}
+use Rattle.std.specs.Prelude.{◌≡◌, ℕ, List, [], ◌∷◌, map}
 use Rattle.self_terms.specs.declared.bodies.Body.{Body}
 use Rattle.self_tokens.specs.Tokens.{tokens}
 use Rattle.self_grammar.specs.declared.pieces.Item.{Item}

@@ -14,8 +14,6 @@ mod nodes;
 mod rows;
 mod teller;
 mod telling;
-#[cfg(test)]
-mod tests;
 mod told;
 
 pub use contents::InitialTold;

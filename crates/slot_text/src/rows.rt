@@ -1,5 +1,5 @@
 // For each body of an edit's text, what its locals hold at first.
-ghost use Rattle.std.specs.Prelude.{◌≡◌, ◌++◌, ◌∷◌, [], map, length, IfOk, OnOk};
+ghost use Rattle.std.specs.Prelude.{◌≡◌, [], map, IfOk, OnOk};
 ghost use Rattle.slot_text.specs.Telling.{kept_by, given_to, AreRows};
 
 use crate::contents::{InitialTold, Kept};

@@ -1,8 +1,8 @@
 // What the text of an edit says.
-ghost use Rattle.std.specs.Prelude.{◌≡◌, ◌-◌, ◌<◌, ◌≤◌, length, map, slice_get, Some, IfOk};
+ghost use Rattle.std.specs.Prelude.{◌≡◌, ◌-◌, ◌<◌, ◌≤◌, length, slice_get, Some, IfOk};
 ghost use Rattle.world_build.specs.SlotTexts.{slot_of};
 ghost use Rattle.slot_text.specs.Contents.{body_with};
-ghost use Rattle.slot_text.specs.Telling.{shown, AreRows, kept_by};
+ghost use Rattle.slot_text.specs.Telling.{shown};
 
 use crate::contents::InitialTold;
 use crate::rows::rows_of;

@@ -1,4 +1,4 @@
-use Rattle.std.proofs.Common.{◌≡◌, ◌∷◌, sym, subst}
+use Rattle.std.proofs.Common.{◌∷◌, sym, subst}
 use Rattle.std.specs.Prelude.{map}
 use Rattle.slot_text.specs.Contents.{initial}
 use Rattle.slot_text.specs.Telling.{kept_by}

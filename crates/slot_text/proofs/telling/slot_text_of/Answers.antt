@@ -27,12 +27,12 @@ pub returns-clause-told : goal.returns-clause-told
 returns-clause-told c =
     let begun : shown c.open-teller.result ≡ nothing_told c.args.names.now = c.open-teller.ensures ∙ ap nothing_told c.replace-own.ensures.value in
     let all : shown c.take_all-all.new.self ≡ told c.args.bytes.now c.args.slot.now.items.items (nothing_told c.args.names.now) =
-        c.in_ok-all.ensures ∙ ap (λ is. told c.args.bytes.now is (shown c.open-teller.result)) c.deref.ensures.value ∙ ap (told c.args.bytes.now c.args.slot.now.items.items) begun in
+    c.in_ok-all.ensures ∙ ap (λ is. told c.args.bytes.now is (shown c.open-teller.result)) c.deref.ensures.value ∙ ap (told c.args.bytes.now c.args.slot.now.items.items) begun in
     subst (λ x. IfOk c.finish.result (λ t. t ≡ x)) (ap slot_of all) c.finish.ensures
 
 pub returns-clause-names : goal.returns-clause-names
 returns-clause-names c =
     let begun : shown c.open-teller.result ≡ nothing_told c.args.names.now = c.open-teller.ensures ∙ ap nothing_told c.replace-own.ensures.value in
     let all : shown c.take_all-all.new.self ≡ told c.args.bytes.now c.args.slot.now.items.items (nothing_told c.args.names.now) =
-        c.in_ok-all.ensures ∙ ap (λ is. told c.args.bytes.now is (shown c.open-teller.result)) c.deref.ensures.value ∙ ap (told c.args.bytes.now c.args.slot.now.items.items) begun in
+    c.in_ok-all.ensures ∙ ap (λ is. told c.args.bytes.now is (shown c.open-teller.result)) c.deref.ensures.value ∙ ap (told c.args.bytes.now c.args.slot.now.items.items) begun in
     always c.finish.result _ (c.swap.ensures.x_after ∙ ap (λ (t : Told). t.loading.names) all)

@@ -1,4 +1,4 @@
-use Rattle.std.proofs.Common.{◌≡◌, length, sym, subst, ap, ◌∙◌}
+use Rattle.std.proofs.Common.{length, sym, subst, ap, ◌∙◌}
 use Rattle.std.specs.Prelude.{map}
 use Rattle.world_build.specs.SlotTexts.{slot_of}
 use Rattle.slot_text.specs.Telling.{AreRows, kept_by, shown}

@@ -1,4 +1,4 @@
-use Rattle.std.proofs.Common.{◌≡◌, ◌+◌, ◌-◌, length, get_or, refl, sym, subst, ◌∙◌, arith}
+use Rattle.std.proofs.Common.{◌+◌, ◌-◌, length, refl, sym, subst, ◌∙◌, arith}
 use Rattle.world_build.specs.Steps.{IsWithin}
 use Rattle.world_build.specs.SlotTexts.{Told}
 use Rattle.world_build.proofs.ItemLemmas.{wider}

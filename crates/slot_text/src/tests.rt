@@ -1,1 +1,0 @@
-// A worked text of an edit, read and told.
