@@ -13,5 +13,6 @@ pub mod Numbers
 pub mod Paths
 pub mod Cores
 pub mod Wholeness
+pub mod SlotParts
 pub mod SlotTexts
 pub mod SlotTextRow
