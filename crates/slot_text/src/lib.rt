@@ -14,6 +14,8 @@ mod nodes;
 mod rows;
 mod teller;
 mod telling;
+#[cfg(test)]
+mod tests;
 mod told;
 
 pub use contents::InitialTold;
