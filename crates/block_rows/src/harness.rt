@@ -52,6 +52,17 @@ fn world_of(alloc: Global, lines: &str) -> Result<Vec<u8>, AllocError> {
     Ok(world)
 }
 
+// The status with which the program ends over these devices.
+fn status_of(
+    alloc: Global,
+    texts: &[String],
+    files: &mut MemFiles,
+    source: &mut MemSource,
+    sink: &mut MemSink,
+) -> u8 {
+    selfdb(alloc, texts, files, source, sink).status
+}
+
 // What the sink took in a run of the world with the script, and the status.
 fn call(alloc: Global, world: &[u8], script: &[u8]) -> Result<(Vec<u8>, u8), AllocError> {
     let texts = texts_of(alloc, RUN)?;
@@ -60,8 +71,8 @@ fn call(alloc: Global, world: &[u8], script: &[u8]) -> Result<(Vec<u8>, u8), All
     let mut files = MemFiles::new(alloc, list, Vec::new(alloc))?;
     let mut source = MemSource::new(script.to_vec(alloc)?, Vec::new(alloc));
     let mut sink = MemSink::new(alloc, 4096, Vec::new(alloc))?;
-    let ended = selfdb(alloc, &texts, &mut files, &mut source, &mut sink);
-    Ok((sink.bytes().to_vec(alloc)?, ended.status))
+    let status = status_of(alloc, &texts, &mut files, &mut source, &mut sink);
+    Ok((sink.bytes().to_vec(alloc)?, status))
 }
 
 // The run of a row writes the text of the row and ends with its status.

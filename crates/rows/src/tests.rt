@@ -97,6 +97,17 @@ fn files_of(alloc: Global, world: &[u8], failed: u64) -> Result<MemFiles, AllocE
     MemFiles::new(alloc, list, vec![in alloc; failed]?)
 }
 
+// The status with which the program ends over these devices.
+fn status_of(
+    alloc: Global,
+    texts: &[String],
+    files: &mut MemFiles,
+    source: &mut MemSource,
+    sink: &mut MemSink,
+) -> u8 {
+    selfdb(alloc, texts, files, source, sink).status
+}
+
 // A call over the files, and a script. The reads of the script and the writes with these numbers fail.
 pub(crate) fn call(
     alloc: Global,
@@ -110,8 +121,8 @@ pub(crate) fn call(
     let mut files = files_of(alloc, world, 0)?;
     let mut source = MemSource::new(script.to_vec(alloc)?, vec![in alloc; failed_read]?);
     let mut sink = MemSink::new(alloc, 4096, vec![in alloc; failed_write]?)?;
-    let ended = selfdb(alloc, &texts, &mut files, &mut source, &mut sink);
-    Ok((sink.bytes().to_vec(alloc)?, ended.status, files.calls()))
+    let status = status_of(alloc, &texts, &mut files, &mut source, &mut sink);
+    Ok((sink.bytes().to_vec(alloc)?, status, files.calls()))
 }
 
 // The core text, and this line.
@@ -227,9 +238,9 @@ fn failed_at(
     let mut files = files_of(alloc, world, number)?;
     let mut source = MemSource::new(b"spawn main\nrun 9\n".to_vec(alloc)?, Vec::new(alloc));
     let mut sink = MemSink::new(alloc, 4096, Vec::new(alloc))?;
-    let ended = selfdb(alloc, &texts, &mut files, &mut source, &mut sink);
+    let status = status_of(alloc, &texts, &mut files, &mut source, &mut sink);
     Ok([
-        ended.status as u64,
+        status as u64,
         files.calls(),
         files.faults_of("add.self"),
         files.faults_of("other.self"),
