@@ -59,6 +59,8 @@ pub fn new_string(mem: &mut Memory, heap: &mut Heap, bytes: &[u8]) -> Word
     requires few { heap.old.next < 500000000 }
     ensures made { (maps : List Slots) (h : Cells) (p : Places) (objects : List Thing) (made : List Made) → IsHeap maps mem.old heap.old h p objects made
         → After maps mem.new heap.new h p (record p { objects = p.objects ++ result ∷ [] }) (objects ++ Bytes bytes.now ∷ []) made }
+    // Its words stand at what was the heap's top, and no other word is new.
+    ensures written { IsWritten mem.old mem.new heap.old.top heap.old.next bytes.now }
     // What lies outside the heap is as it was.
     ensures outside { (b : ℕ) → (b < 0x20000000) ⊎ (heap.new.top ≤ b) → word_at mem.new b ≡ word_at mem.old b }
     ensures next { heap.new ≡ record { top = heap.old.top + 12 + 4 * ((length bytes.now + 3) / 4); next = heap.old.next + 1 } }

@@ -76,7 +76,6 @@ fn refusal(error: ErrorName) -> &'static str
         ErrorName::NonLifoBlock => "refused nonLifoBlock",
         ErrorName::StackOverflow => "refused stackOverflow",
         ErrorName::StoreFull => "refused storeFull",
-        ErrorName::NotBuilt => "refused notBuilt",
     }
 }
 

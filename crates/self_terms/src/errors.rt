@@ -14,6 +14,4 @@ pub enum ErrorName {
     NonLifoBlock,
     StackOverflow,
     StoreFull,
-    /// The node isn't built yet.
-    NotBuilt,
 }

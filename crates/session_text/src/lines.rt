@@ -644,6 +644,5 @@ fn error_text(error: ErrorName) -> &'static [u8]
         ErrorName::NonLifoBlock => b"nonLifoBlock",
         ErrorName::StackOverflow => b"stackOverflow",
         ErrorName::StoreFull => b"storeFull",
-        ErrorName::NotBuilt => b"notBuilt",
     }
 }

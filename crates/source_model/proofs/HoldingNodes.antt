@@ -265,7 +265,6 @@ module _ (V : Value → Type 0) (ints : (i : ℤ) → V (values.Int i)) (n : ℕ
   error_small errors.NonLifoBlock = omega arith
   error_small errors.StackOverflow = omega arith
   error_small errors.StoreFull = omega arith
-  error_small errors.NotBuilt = omega arith
 
   row_small : (r : Option ℕ) → IsRow r → row_string r < 26
   row_small None e = omega arith
