@@ -34,6 +34,11 @@ abbrev pub IsRightlyRefused : {A : Type 0} → (T : Type 0) → (T → List Mark
 IsRightlyRefused T marks given (Ok a) = Unit {0}
 IsRightlyRefused T marks given (Err stop) = IsRight T marks given stop
 
+-- A refusal leaves this so.
+abbrev pub OnRefusal : {A : Type 0} → Result A ReadStop → Type 0 → Type 0
+OnRefusal (Err (stops.Refused r)) so = so
+OnRefusal _ so = Unit {0}
+
 -- the names that the system itself knows, before those of a text
 abbrev pub known : List (List ℕ)
 known = codes "_IntAdd:" ∷ codes "_IntSub:" ∷ []

@@ -5,7 +5,7 @@ ghost use Rattle.self_grammar.specs.Grammar.{World, Edit};
 ghost use Rattle.self_grammar.specs.Spelling.{world, edit, items_of};
 ghost use Rattle.self_grammar.specs.Refusal.{IsText};
 ghost use Rattle.self_signs.specs.Signs.{signs, names_after, Keeps};
-ghost use Rattle.self_reader.specs.Texts.{AreRead, IsAnswered, IsRightlyRefused, known};
+ghost use Rattle.self_reader.specs.Texts.{AreRead, IsAnswered, IsRightlyRefused, OnRefusal, known};
 
 use crate::reading::{read_edit_signs, read_world_signs};
 use crate::stops::ReadStop;
@@ -61,7 +61,7 @@ pub fn read_world(alloc: Global, bytes: &[u8]) -> Result<WorldTree, ReadStop>
 }
 
 /// Reads the text of an edit, one slot with a method, of at most 1,048,576 bytes: what it says, or what is wrong first at
-/// the first place where something is wrong. The names get those of the text; a refusal may have added some.
+/// the first place where something is wrong. The names get those of the text, also where it is refused.
 pub fn read_slot(
     alloc: Global,
     bytes: &[u8],
@@ -73,6 +73,8 @@ pub fn read_slot(
     ensures found { IfOk result (λ t. AreRead Edit (edit LIMITS) (signs names.old bytes.now) t.items.items) }
     ensures number { IfOk result (λ t. t.edit ≡ number) }
     ensures names { OnOk result (names.new ≡ names_after names.old bytes.now (tokens bytes.now)) }
+    // A text that is refused has given its names too.
+    ensures refused_names { OnRefusal result (names.new ≡ names_after names.old bytes.now (tokens bytes.now)) }
     ensures kept { Keeps names.old names.new }
     ensures only { (e : Edit) → IsText (edit LIMITS) (signs names.old bytes.now) e → IsAnswered (λ t. t.items.items) result (items_of (edit LIMITS e)) }
     ensures refused { IsRightlyRefused Edit (edit LIMITS) (signs names.old bytes.now) result }
