@@ -1,0 +1,2 @@
+-- The names of a session over an accepted world.
+pub mod Accepted

@@ -1,0 +1,5 @@
+pub mod Numbers
+pub mod Fitting
+pub mod Formed
+pub mod Whole
+pub mod Sessions

@@ -1,0 +1,2 @@
+-- When names may come behind those of a state.
+pub mod Growing
