@@ -7,8 +7,8 @@ It shares nothing with the crates, and is an outside reference for their tests a
 tables of files of crates/rows and crates/block_rows, does each row over the core text, and tells those whose text or
 status differs; rows that say that something isn't built are left out. Rows of whole worlds (limits, refusals) are checked.
 
-An interrupt stops after just as many steps as it asks for. Not here: the commands edit, advisor, units and machine, which
-answer `not built` with status 3, and drills, which answer `not built` with status 1. Of several rules of a text that are broken at one token the first in
+An interrupt stops after just as many steps as it asks for. Three advisors are handed in, which are never asked. Not here:
+the commands edit, units and machine, which answer `not built` with status 3, and drills, which answer `not built` with status 1. Of several rules of a text that are broken at one token the first in
 order isn't always the one that is told.
 """
 import re
@@ -996,7 +996,7 @@ def script_of(text):
         if not form or form.group(4) and int(form.group(4)) > 1000000000:
             raise Refused("line %d" % at)
         name = form.group(1) or form.group(3) or form.group(5)
-        built = built and name not in ("units", "machine", "advisor")
+        built = built and name not in ("units", "machine")
         commands.append((name, form.group(2) or form.group(4)))
     return commands if built else None
 

@@ -3,6 +3,7 @@
 // A table is one text: a line for each row, whose fields `;` parts. In a field `~` stands for a newline.
 
 use io_ports::{MemFiles, MemSink, MemSource, NamedFile};
+use recompile::{Advisor, Plain};
 use self_debugger::selfdb;
 use std::alloc::{AllocError, Global};
 
@@ -52,6 +53,15 @@ fn world_of(alloc: Global, lines: &str) -> Result<Vec<u8>, AllocError> {
     Ok(world)
 }
 
+// Three advisors that advise nothing, as the program hands them in.
+fn advisors(alloc: Global) -> Result<Vec<Box<dyn Advisor + Drop>>, AllocError> {
+    let mut list: Vec<Box<dyn Advisor + Drop>> = Vec::new(alloc);
+    for _ in 0..3 {
+        list.push(Box::new(alloc, Plain)?)?;
+    }
+    Ok(list)
+}
+
 // The status with which the program ends over these devices.
 fn status_of(
     alloc: Global,
@@ -59,8 +69,8 @@ fn status_of(
     files: &mut MemFiles,
     source: &mut MemSource,
     sink: &mut MemSink,
-) -> u8 {
-    selfdb(alloc, texts, files, source, sink).status
+) -> Result<u8, AllocError> {
+    Ok(selfdb(alloc, texts, files, source, sink, advisors(alloc)?).status)
 }
 
 // What the sink took in a run of the world with the script, and the status.
@@ -71,7 +81,7 @@ fn call(alloc: Global, world: &[u8], script: &[u8]) -> Result<(Vec<u8>, u8), All
     let mut files = MemFiles::new(alloc, list, Vec::new(alloc))?;
     let mut source = MemSource::new(script.to_vec(alloc)?, Vec::new(alloc));
     let mut sink = MemSink::new(alloc, 4096, Vec::new(alloc))?;
-    let status = status_of(alloc, &texts, &mut files, &mut source, &mut sink);
+    let status = status_of(alloc, &texts, &mut files, &mut source, &mut sink)?;
     Ok((sink.bytes().to_vec(alloc)?, status))
 }
 

@@ -3,7 +3,6 @@ pub mod Writing
 pub mod Keeping
 pub mod Fronts
 pub mod Knowing
-pub mod Shortness
 pub mod Stacking
 pub mod Obeying
 pub mod Telling

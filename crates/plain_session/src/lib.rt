@@ -8,7 +8,6 @@
 
 mod commands;
 mod finishing;
-mod lengths;
 mod sessions;
 mod stacks;
 

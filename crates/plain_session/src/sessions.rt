@@ -20,10 +20,9 @@ ghost use Rattle.world_blocks.specs.Sessions.{session_names};
 ghost use Rattle.world_state.specs.Begun.{begun};
 ghost use Rattle.world_test.specs.Further.{starts_fixed};
 ghost use Rattle.plain_session.specs.Commands.{is_built, obeyed, steps_on, goes_to, finishes, stacks};
-ghost use Rattle.plain_session.specs.Stacks.{rest_text, RestHasRoom};
+ghost use Rattle.plain_session.specs.Stacks.{AreShort, rest_text, RestHasRoom};
 ghost use Rattle.plain_session.specs.Sessions.{host_of, Shows, IsShown, Obeys, HasObeyed, HasBroken, IsLed, CanCount, CountsFew, birth_text};
 
-use crate::lengths::are_short;
 use crate::stacks::StackWriter;
 use io_ports::{Failed, Sink};
 use plain_core::{Birth, Language, RunErr};
@@ -104,13 +103,13 @@ fn birth_line(hosting: &Hosting, birth: Birth) -> LineText<'static>
 }
 
 impl Session {
-    /// The session over a world, with its names and those that a session has behind them, which shows the state with which it begins. Where names leave the
-    /// line of an activation no room, memory is wanting.
+    /// The session over a world, with its names and those that a session has behind them, which shows the state with which it begins.
     pub fn open(alloc: Global, image: WorldImage) -> Result<Session, OutOfMemory>
         requires opens { CanOpen image.world }
         requires formed { IsWellFormed (begun image.world (session_names image.world) 0) }
         requires sums { NamesSums (session_names image.world) }
         requires fixed { starts_fixed image.world.names ≡ true }
+        requires short { AreShort (session_names image.world) image.world.bodies }
         requires few { length image.world.names ≤ 450000000 }
         ensures shows { IfOk result (λ x. Shows x (begun image.world (session_names image.world) 0)) }
         ensures idle { IfOk result (λ x. (host_of x).statuses ≡ []) }
@@ -120,7 +119,6 @@ impl Session {
         image.is_whole();
         let core = image.world().core();
         let names = session_names(alloc, image.world().names())?;
-        are_short(&names, image.world())?;
         let fixed = image.world().objects();
         let failure = number_of(&names, b"value:With:");
         let hosting = plain_opens::open(alloc, image)?;

@@ -65,7 +65,8 @@ main = ( 3 _IntAdd: 4 ).~;spawn main~interrupt 2~step~step~step~;activity 1~stop
 main = ( 3 _IntAdd: 4 ).~;finish 3~stack~;refused no activity~refused no activity~;0
 main = ( 3 _IntAdd: 4 ).~;units~;not built~;3
 main = ( 3 _IntAdd: 4 ).~;machine~;not built~;3
-main = ( 3 _IntAdd: 4 ).~;advisor 0~;not built~;3
+main = ( 3 _IntAdd: 4 ).~;advisor 0~advisor 3~advisor 2~advisor 2~advisor 1~advisor 1~advisor 0~;advisor 0~refused no such advisor~advisor 2~refused no such advisor~advisor 1~refused no such advisor~advisor 0~;0
+main = ( 3 _IntAdd: 4 ).~;spawn main~run 1~advisor 1~step~advisor 1000000000~advisor 0~run 9~;activity 1~stop at 1 line 10:21~advisor 1~stop at 2 line 10:12~refused no such advisor~advisor 0~done 7 at 4~;0
 main = ( 3 _IntAdd: 4 ).~;edit lobby~f = ( 1 )~end~;not built~;3";
 
 #[test]

@@ -5,6 +5,7 @@
 use crate::core_text::CORE_TEXT;
 use crate::refusals::REFUSALS;
 use io_ports::{MemFiles, MemSink, MemSource, NamedFile};
+use recompile::{Advisor, Plain};
 use self_debugger::selfdb;
 use std::alloc::{AllocError, Global};
 use std::test::Fail;
@@ -97,6 +98,15 @@ fn files_of(alloc: Global, world: &[u8], failed: u64) -> Result<MemFiles, AllocE
     MemFiles::new(alloc, list, vec![in alloc; failed]?)
 }
 
+// Three advisors that advise nothing, as the program hands them in.
+fn advisors(alloc: Global) -> Result<Vec<Box<dyn Advisor + Drop>>, AllocError> {
+    let mut list: Vec<Box<dyn Advisor + Drop>> = Vec::new(alloc);
+    for _ in 0..3 {
+        list.push(Box::new(alloc, Plain)?)?;
+    }
+    Ok(list)
+}
+
 // The status with which the program ends over these devices.
 fn status_of(
     alloc: Global,
@@ -104,8 +114,8 @@ fn status_of(
     files: &mut MemFiles,
     source: &mut MemSource,
     sink: &mut MemSink,
-) -> u8 {
-    selfdb(alloc, texts, files, source, sink).status
+) -> Result<u8, AllocError> {
+    Ok(selfdb(alloc, texts, files, source, sink, advisors(alloc)?).status)
 }
 
 // A call over the files, and a script. The reads of the script and the writes with these numbers fail.
@@ -121,7 +131,7 @@ pub(crate) fn call(
     let mut files = files_of(alloc, world, 0)?;
     let mut source = MemSource::new(script.to_vec(alloc)?, vec![in alloc; failed_read]?);
     let mut sink = MemSink::new(alloc, 4096, vec![in alloc; failed_write]?)?;
-    let status = status_of(alloc, &texts, &mut files, &mut source, &mut sink);
+    let status = status_of(alloc, &texts, &mut files, &mut source, &mut sink)?;
     Ok((sink.bytes().to_vec(alloc)?, status, files.calls()))
 }
 
@@ -238,7 +248,7 @@ fn failed_at(
     let mut files = files_of(alloc, world, number)?;
     let mut source = MemSource::new(b"spawn main\nrun 9\n".to_vec(alloc)?, Vec::new(alloc));
     let mut sink = MemSink::new(alloc, 4096, Vec::new(alloc))?;
-    let status = status_of(alloc, &texts, &mut files, &mut source, &mut sink);
+    let status = status_of(alloc, &texts, &mut files, &mut source, &mut sink)?;
     Ok([
         status as u64,
         files.calls(),

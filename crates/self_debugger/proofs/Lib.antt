@@ -8,4 +8,6 @@ pub mod Decimals
 pub mod OneJob
 pub mod OneAnswer
 pub mod Taking
+pub mod Serving
+pub mod Advising
 pub mod Folding

@@ -14,7 +14,7 @@ use Rattle.self_debugger.specs.WorldLines.{read_line, build_line}
 use Rattle.self_debugger.specs.WorldFiles.{Spells, built_of, WorldRead, too_long, refused, unbuilt, read}
 use Rattle.self_debugger.proofs.ClosedSigns.{signs_closed}
 
-abbrev Meaning : Type 0
+abbrev pub Meaning : Type 0
 Meaning = Result World (List ℕ)
 
 abbrev Building : Type 0
@@ -29,7 +29,7 @@ Fail b = Err b
 abbrev Make : World → Building
 Make w = Ok w
 
-abbrev Mean : World → Meaning
+abbrev pub Mean : World → Meaning
 Mean w = Ok w
 
 one_failure : (b c : BuildRefusal) → Fail b ≡ Fail c → b ≡ c

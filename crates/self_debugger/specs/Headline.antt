@@ -5,12 +5,12 @@ use Rattle.io_ports.specs.Causes.{Takes, TakesFront}
 use Rattle.session_text.specs.declared.commands.Command.{Command}
 use Rattle.session_text.specs.Scripts.{script}
 use Rattle.source_model.specs.State.{silent}
-use Rattle.plain_session.specs.Commands.{is_built, all_obeyed}
-use Rattle.plain_session.specs.Sessions.{Session, host_of, Shows}
 use Rattle.plain_core.specs.Leading.{Leads}
 use Rattle.plain_runs.specs.Host.{Host}
 use Rattle.plain_turns.specs.Resting.{Rests}
 use Rattle.world_build.specs.Worlds.{World}
+use Rattle.self_debugger.specs.Commands.{is_served, all_served}
+use Rattle.self_debugger.specs.Sessions.{Session, host_of, Shows}
 use Rattle.self_debugger.specs.Words.{RunWorld, CheckWorld, Asks}
 use Rattle.self_debugger.specs.WorldFiles.{WorldRead, begins}
 use Rattle.self_debugger.specs.Answer.{Answer}
@@ -44,23 +44,23 @@ HasReadFault words bytes_of file_failed script_failed =
     ⊎ ((name : List ℕ) × Asks words (RunWorld name) × script_failed × ((bytes : List ℕ) → bytes_of name ≡ Some bytes → IsAccepted bytes))
 
 -- Machine and host were reached from where a session over the world begins, by as many instructions and services as the session has counted.
-pub record IsLedFrom (w : World) (session : Session) : Type 0 where
+pub record IsLedFrom (handed : ℕ) (w : World) (session : Session) : Type 0 where
   pub start : Host
-  pub begun : Rests start (begins w)
+  pub begun : Rests start (begins handed w)
   pub idle : start.statuses ≡ []
-  pub leads : Leads start session.instructions session.services (host_of session)
+  pub leads : Leads start session.plain.instructions session.plain.services (host_of session)
 
--- The session is what a run of the script over the world leaves: it shows the state that the script's commands come to; its machine and host were
+-- The session is what a run of the script over the world, with so many advisors, leaves: it shows the state that the script's commands come to; its machine and host were
 -- reached, by just as many instructions and services as it has counted, from those that stand for the state with which a session over the world begins, without an activity.
-pub record IsRun (w : World) (text : List ℕ) (session : Session) : Type 0 where
+pub record IsRun (handed : ℕ) (w : World) (text : List ℕ) (session : Session) : Type 0 where
   pub commands : List Command
   pub asked : script text ≡ Ok commands
-  pub built : list_all is_built commands ≡ true
-  pub shows : Shows session (all_obeyed commands (silent (begins w))).state
-  pub led : IsLedFrom w session
+  pub built : list_all is_served commands ≡ true
+  pub shows : Shows session (all_served commands (silent (begins handed w))).state
+  pub led : IsLedFrom handed w session
 
 -- So it is over the world of these bytes.
-pub record IsSession (bytes text : List ℕ) (session : Session) : Type 0 where
+pub record IsSession (handed : ℕ) (bytes text : List ℕ) (session : Session) : Type 0 where
   pub world : World
   pub accepted : WorldRead bytes (Ok world)
-  pub run : IsRun world text session
+  pub run : IsRun handed world text session

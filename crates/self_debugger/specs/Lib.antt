@@ -4,6 +4,8 @@ pub mod Words
 pub mod Tasks
 pub mod WorldLines
 pub mod WorldFiles
+pub mod Commands
+pub mod Sessions
 pub mod Answer
 pub mod Headline
 pub mod Parts

@@ -1,5 +1,5 @@
 -- What the bytes of a world file mean: a world, or the line that refuses them.
-use Rattle.std.specs.Prelude.{◌≡◌, ℕ, ◌<◌, ◌≤◌, Result, Ok, Err, List, length, codes}
+use Rattle.std.specs.Prelude.{◌≡◌, ℕ, ◌-◌, ◌<◌, ◌≤◌, Result, Ok, Err, List, length, codes}
 use Rattle.self_tokens.specs.Tokens.{tokens}
 use Rattle.self_grammar.specs.declared.signs.ReadRefusal.{ReadRefusal}
 use Rattle.self_grammar.specs.Grammar as grammar
@@ -30,6 +30,7 @@ pub data WorldRead (bytes : List ℕ) : Result World (List ℕ) → Type 0 where
   unbuilt : (t : grammar.World) (b : BuildRefusal) → length bytes ≤ 1048576 → Spells bytes t → built_of bytes t ≡ Err b → WorldRead bytes (Err (build_line b))
   read : (t : grammar.World) (w : World) → length bytes ≤ 1048576 → Spells bytes t → built_of bytes t ≡ Ok w → WorldRead bytes (Ok w)
 
--- the state with which a session over a world begins: behind its names stand those of a session
-abbrev pub begins : World → State
-begins w = begun w (session_names w) 0
+-- the state with which a session over a world begins, where so many advisors are handed in: the first of them is the present one, and the others are left;
+-- behind the world's names stand those of a session
+abbrev pub begins : ℕ → World → State
+begins handed w = begun w (session_names w) (handed - 1)

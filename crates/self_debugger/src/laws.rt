@@ -5,13 +5,13 @@ ghost use Rattle.self_debugger.specs.Answer.{Answer, Answers};
 ghost use Rattle.self_debugger.specs.Headline.{TellsWorld};
 ghost use Rattle.self_debugger.specs.WorldFiles.{WorldRead};
 
-/// To all words, over all files and scripts, there is no more than one answer, and there is one where the world and
+/// To all words, over all files and scripts, and with any number of advisors, there is no more than one answer, and there is one where the world and
 /// the script are told.
 pub fn one_answer()
-    ensures one { (words : List (List ℕ)) (bytes_of : List ℕ → Option (List ℕ)) (script : Option (List ℕ)) (a b : Answer)
-        → Answers words bytes_of script a → Answers words bytes_of script b → a ≡ b }
-    ensures some { (words : List (List ℕ)) (bytes_of : List ℕ → Option (List ℕ)) (w t : List ℕ)
-        → TellsWorld words bytes_of w → (a : Answer) × Answers words bytes_of (Some t) a }
+    ensures one { (handed : ℕ) (words : List (List ℕ)) (bytes_of : List ℕ → Option (List ℕ)) (script : Option (List ℕ)) (a b : Answer)
+        → Answers handed words bytes_of script a → Answers handed words bytes_of script b → a ≡ b }
+    ensures some { (handed : ℕ) (words : List (List ℕ)) (bytes_of : List ℕ → Option (List ℕ)) (w t : List ℕ)
+        → TellsWorld words bytes_of w → (a : Answer) × Answers handed words bytes_of (Some t) a }
 {}
 
 /// The bytes of each file mean one thing, and one alone: a world, or the line that refuses them.

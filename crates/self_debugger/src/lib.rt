@@ -9,13 +9,14 @@
 mod laws;
 mod lines;
 mod numbers;
+mod sessions;
 mod top;
 mod words;
 mod worlds;
 
 pub use laws::{files_mean_one_thing, one_answer};
 pub use lines::{build_line, ok_line, read_line, script_line};
-pub use plain_session::Session;
+pub use sessions::{Session, all_served, is_served};
 pub use top::{Ended, selfdb};
 pub use words::{Task, task_of};
-pub use worlds::{session_over, world_of};
+pub use worlds::world_of;

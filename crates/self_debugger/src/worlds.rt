@@ -1,5 +1,5 @@
 // The world of a file, and a session over it.
-ghost use Rattle.std.specs.Prelude.{◌≡◌, ◌+◌, ◌≤◌, [], length, Ok, Err, IfOk, IfErr};
+ghost use Rattle.std.specs.Prelude.{◌≡◌, ℕ, ◌+◌, ◌≤◌, [], length, Ok, Err, IfOk, IfErr};
 ghost use Rattle.self_tokens.specs.Tokens.{tokens};
 ghost use Rattle.self_grammar.specs.Grammar.{World as Text};
 ghost use Rattle.self_grammar.specs.Spelling.{world};
@@ -12,7 +12,6 @@ ghost use Rattle.self_debugger.specs.WorldFiles.{WorldRead, begins};
 ghost use Rattle.self_debugger.specs.Parts.{IsWorld};
 
 use crate::lines::{build_line, read_line};
-use plain_session::Session;
 use self_reader::{ReadStop, WorldTree, read_world};
 use std::alloc::{AllocError, Global};
 use world_image::{WorldImage, build};
@@ -51,15 +50,18 @@ fn build_world(
     }
 }
 
-/// A session over a world that was read, which shows the state with which it begins.
-pub fn session_over(alloc: Global, image: WorldImage) -> Result<Session, AllocError>
+/// A session in plain code over a world that was read, which shows the state with which it begins, whatever the number of advisors that are left.
+pub(crate) fn session_over(
+    alloc: Global,
+    image: WorldImage,
+) -> Result<plain_session::Session, AllocError>
     requires accepted { IsWorld image.world }
     requires few { length image.world.names ≤ 450000000 }
-    ensures shows { IfOk result (λ x. Shows x (begins image.world)) }
+    ensures shows { IfOk result (λ x. (handed : ℕ) → Shows x (begins handed image.world)) }
     ensures idle { IfOk result (λ x. (host_of x).statuses ≡ []) }
     ensures counted { IfOk result (λ x. count (host_of x) ≡ 0) }
     ensures instructions { IfOk result (λ x. x.instructions ≡ 0) }
     ensures services { IfOk result (λ x. x.services ≡ 0) }
 {
-    Session::open(alloc, image)
+    plain_session::Session::open(alloc, image)
 }

@@ -40,3 +40,4 @@ pub mod Coded
 pub mod Ordered
 pub mod Slotted
 pub mod BodyParts
+pub mod BodyWeights

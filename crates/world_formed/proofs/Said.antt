@@ -882,7 +882,15 @@ module _ (l : Limits) (ln : l.nesting ≤ 64) (names : List (List ℕ)) where
   world_owes (g.world_last ms x p) sound =
       (members_before_owes false 0 ms _ (member_owes false 0 x (λ u. s.finish l p) (finish_owes p)) 0 [] (scope holder) (has_first holder) (s.at_first 1) (frame 0 0 false [] ∷ []) None at_first_stands sound).keeps
 
+  edit_owes : (x : g.Edit) → AreFine names (s.edit l x) → Keeps names 0 (frame 0 0 false [] ∷ []) None (items_of (s.edit l x))
+  edit_owes (g.edit m q p) sound =
+      (method_slot_owes false 0 m (λ u. s.stopped l q (s.finish l p)) (λ a ns u h. stopped_owes q _ (finish_owes p a ns u h)) 0 [] (scope holder) (has_first holder) (s.at_first 0) (frame 0 0 false [] ∷ []) None
+      (record { nesting = refl; deep = record { most = omega arith; some = tt }; leads = (refl, refl); due = tt }) sound).keeps
+
 -- The items of a text with nothing wrong are right.
 pub world_orders : (l : Limits) (names : List (List ℕ)) (given : List Sign) (x : g.World) → l.nesting ≤ 64 → IsText (s.world l) given x → OfSigns names given →
     Keeps names 0 (frame 0 0 false [] ∷ []) None (items_of (s.world l x))
 world_orders l names given x ln h of = world_owes l ln names x (are_fine names (s.world l x) h.1 (subst (λ xs. OfSigns names xs) (sym h.0) of))
+
+pub edit_orders : (l : Limits) (names : List (List ℕ)) (given : List Sign) (x : g.Edit) → l.nesting ≤ 64 → IsText (s.edit l) given x → OfSigns names given → Keeps names 0 (frame 0 0 false [] ∷ []) None (items_of (s.edit l x))
+edit_orders l names given x ln h of = edit_owes l ln names x (are_fine names (s.edit l x) h.1 (subst (λ xs. OfSigns names xs) (sym h.0) of))

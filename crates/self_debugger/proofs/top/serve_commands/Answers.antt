@@ -1,4 +1,4 @@
-use Rattle.std.proofs.Common.{◌∙◌, sym, arith}
+use Rattle.std.proofs.Common.{◌∙◌, sym, arith, length}
 use Rattle.std.proofs.lemmas.Option.{IfSome_then}
 use Rattle.self_debugger.specs.Answer.{Answer}
 use Rattle.self_debugger.specs.Headline.{Outcome}
@@ -6,15 +6,15 @@ use Rattle.self_debugger.proofs.Cases.{of_other_script, of_script}
 use Rattle.self_debugger.proofs.Scripts.{few_commands}
 use Rattle.self_debugger.proofs.top.serve_commands.Goals as goal
 
-pub returns-then-not-all_built-clause-outcome : goal.returns-then-not-all_built-clause-outcome
-returns-then-not-all_built-clause-outcome g c = λ a s.
+pub returns-then-not-all_served-clause-outcome : goal.returns-then-not-all_served-clause-outcome
+returns-then-not-all_served-clause-outcome g c = λ a s.
     let P : Answer → Type 0 = λ x. Outcome c.tell.result.status x (g.K.Sink.taken c.args.out.now) (g.K.Sink.taken c.tell.new.out) in
-    of_other_script P c.args.image.world c.args._text.now c.args.commands.now c.requires.short c.requires.read (sym c.all_built.ensures ∙ c.if-not-all_built.true) c.tell.ensures.outcome s
+    of_other_script (length c.args.advisors.items) P c.args.image.world c.args._text.now c.args.commands.now c.requires.short c.requires.read (sym c.all_served.ensures ∙ c.if-not-all_served.true) c.tell.ensures.outcome s
 
 pub returns-clause-outcome : goal.returns-clause-outcome
 returns-clause-outcome g c = λ a s.
     let P : Answer → Type 0 = λ x. Outcome c.serve_run.result.status x (g.K.Sink.taken c.args.out.now) (g.K.Sink.taken c.serve_run.new.out) in
-    of_script P c.args.image.world c.args._text.now c.args.commands.now c.requires.short c.requires.read (sym c.all_built.ensures ∙ c.if-not-all_built.false) c.serve_run.ensures.outcome s
+    of_script (length c.args.advisors.items) P c.args.image.world c.args._text.now c.args.commands.now c.requires.short c.requires.read (sym c.all_served.ensures ∙ c.if-not-all_served.false) c.serve_run.ensures.outcome s
 
 pub serve_run-requires-clause-short : goal.serve_run-requires-clause-short
 serve_run-requires-clause-short g c =
@@ -25,4 +25,4 @@ serve_run-requires-clause-short g c =
 pub returns-clause-shown : goal.returns-clause-shown
 returns-clause-shown g c =
     IfSome_then c.serve_run.result.session c.serve_run.ensures.shown
-    (λ e d. record { commands = c.args.commands.now; asked = c.requires.read; built = sym c.all_built.ensures ∙ c.if-not-all_built.false; shows = d.shows; led = d.led })
+    (λ e d. record { commands = c.args.commands.now; asked = c.requires.read; built = sym c.all_served.ensures ∙ c.if-not-all_served.false; shows = d.shows; led = d.led })

@@ -1,4 +1,4 @@
-use Rattle.std.proofs.Common.{◌∙◌, map, string_bytes, Global, sym, ap, inl, inr}
+use Rattle.std.proofs.Common.{◌∙◌, map, string_bytes, Global, sym, ap, inl, inr, length}
 use Rattle.std.proofs.lemmas.Option.{none-some, same_Some}
 use Rattle.self_debugger.specs.Answer.{Answer}
 use Rattle.self_debugger.specs.Headline.{Outcome}
@@ -9,13 +9,13 @@ use Rattle.self_debugger.proofs.top.serve_words.Goals as goal
 pub returns-in-None-clause-headline : goal.returns-in-None-clause-headline
 returns-in-None-clause-headline g c = λ a s.
     let P : Answer → Type 0 = λ x. Outcome c.tell.result.status x (g.K.Sink.taken c.args.out.now) (g.K.Sink.taken c.tell.new.out) in
-    of_no_words P (map (string_bytes {Z = Global}) c.args.words.now) (g.F.Files.bytes_of c.args.files.now) (g.S.Source.left c.args.script.now)
+    of_no_words (length c.args.advisors.items) P (map (string_bytes {Z = Global}) c.args.words.now) (g.F.Files.bytes_of c.args.files.now) (g.S.Source.left c.args.script.now)
     (λ job asks. none-some job (c.in-None.ensures.only job asks)) c.tell.ensures.outcome s
 
 pub returns-in-Some-Run-clause-headline : goal.returns-in-Some-Run-clause-headline
 returns-in-Some-Run-clause-headline g c = λ a s.
     let P : Answer → Type 0 = λ x. Outcome c.serve_world.result.status x (g.K.Sink.taken c.args.out.now) (g.K.Sink.taken c.serve_world.new.out) in
-    of_run P (map (string_bytes {Z = Global}) c.args.words.now) (g.F.Files.bytes_of c.args.files.now) (g.S.Source.left c.args.script.now) c.in-Some-Run.name.now
+    of_run (length c.args.advisors.items) P (map (string_bytes {Z = Global}) c.args.words.now) (g.F.Files.bytes_of c.args.files.now) (g.S.Source.left c.args.script.now) c.in-Some-Run.name.now
     (rw c.in-Some-Run.field-0-is at c.in-Some-Run.ensures.found)
     (λ job asks. sym (same_Some _ _ (c.in-Some-Run.ensures.only job asks)) ∙ ap meant c.in-Some-Run.field-0-is)
     (λ w told r. c.serve_world.ensures.outcome w a told r) s
@@ -23,7 +23,7 @@ returns-in-Some-Run-clause-headline g c = λ a s.
 pub returns-in-Some-Check-clause-headline : goal.returns-in-Some-Check-clause-headline
 returns-in-Some-Check-clause-headline g c = λ a s.
     let P : Answer → Type 0 = λ x. Outcome c.serve_check.result.status x (g.K.Sink.taken c.args.out.now) (g.K.Sink.taken c.serve_check.new.out) in
-    of_check P (map (string_bytes {Z = Global}) c.args.words.now) (g.F.Files.bytes_of c.args.files.now) (g.S.Source.left c.args.script.now) c.in-Some-Check.name.now
+    of_check (length c.args.advisors.items) P (map (string_bytes {Z = Global}) c.args.words.now) (g.F.Files.bytes_of c.args.files.now) (g.S.Source.left c.args.script.now) c.in-Some-Check.name.now
     (rw c.in-Some-Check.field-0-is at c.in-Some-Check.ensures.found)
     (λ job asks. sym (same_Some _ _ (c.in-Some-Check.ensures.only job asks)) ∙ ap meant c.in-Some-Check.field-0-is)
     (λ w told r. c.serve_check.ensures.outcome w a told r) s
@@ -31,7 +31,7 @@ returns-in-Some-Check-clause-headline g c = λ a s.
 pub returns-in-Some-Drill-clause-headline : goal.returns-in-Some-Drill-clause-headline
 returns-in-Some-Drill-clause-headline g c = λ a s.
     let P : Answer → Type 0 = λ x. Outcome c.tell-in-Some-Drill.result.status x (g.K.Sink.taken c.args.out.now) (g.K.Sink.taken c.tell-in-Some-Drill.new.out) in
-    of_drill P (map (string_bytes {Z = Global}) c.args.words.now) (g.F.Files.bytes_of c.args.files.now) (g.S.Source.left c.args.script.now) c.in-Some-Drill.field-0-0
+    of_drill (length c.args.advisors.items) P (map (string_bytes {Z = Global}) c.args.words.now) (g.F.Files.bytes_of c.args.files.now) (g.S.Source.left c.args.script.now) c.in-Some-Drill.field-0-0
     (rw c.in-Some-Drill.field-0-is at c.in-Some-Drill.ensures.found)
     (λ job asks. sym (same_Some _ _ (c.in-Some-Drill.ensures.only job asks)) ∙ ap meant c.in-Some-Drill.field-0-is)
     c.tell-in-Some-Drill.ensures.outcome s

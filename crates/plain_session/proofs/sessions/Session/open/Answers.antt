@@ -4,7 +4,6 @@ use Rattle.source_model.specs.Names.{number_of}
 use Rattle.plain_runs.specs.Host.{Host}
 use Rattle.plain_core.specs.Language.{Language}
 use Rattle.plain_host.specs.Hosted.{host}
-use Rattle.plain_session.specs.Stacks.{AreShort}
 use Rattle.world_build.specs.Worlds.{World}
 use Rattle.plain_session.proofs.Naming.{names_are}
 use Rattle.plain_session.proofs.Knowing.{begins_known}
@@ -15,7 +14,7 @@ open-requires-3-clause-strings c =
     let next = c.next.ensures in
     let all = ap (λ (h : Host). h.next) c.in_ok-hosting.ensures.host in
     let fixed = c.objects-fixed.ensures in
-    let world = ap (λ (w : World). w.objects) c.world-4.ensures in
+    let world = ap (λ (w : World). w.objects) c.world-3.ensures in
     let first = c.requires.formed.1.world.0.fixed in
     let low = c.next.type_inv in
     omega (arith, next, all, fixed, world, first, low)
@@ -25,7 +24,7 @@ returns-clause-shows c =
     let next = c.next.ensures in
     let room = c.in_ok-walk.ensures in
     let core = c.core-core.ensures ∙ ap (λ (w : World). w.core) c.world.ensures in
-    let fixed = c.objects-fixed.ensures ∙ ap (λ (w : World). w.objects) c.world-4.ensures in
+    let fixed = c.objects-fixed.ensures ∙ ap (λ (w : World). w.objects) c.world-3.ensures in
     let names = names_are c.args.image.world c.names.result.now c.in_ok-names.names (c.names.ensures ∙ ap (λ (w : World). w.names) c.world-2.ensures) c.requires.fixed c.in_ok-names.ensures.names in
     record {
       rests = c.in_ok-hosting.ensures.rests 0 c.requires.formed c.requires.sums;
@@ -38,7 +37,7 @@ returns-clause-shows c =
       known = begins_known (host c.in_ok-hosting.hosting) c.args.image c.in_ok-language.language c.in_ok-hosting.ensures.host c.is_whole.ensures.whole
           (ap (λ (l : Language). l.core) c.in_ok-language.ensures ∙ core) (ap (λ (l : Language). l.fixed) c.in_ok-language.ensures ∙ fixed) c.requires.formed.1.world.0.fixed;
       room = omega (arith, next, room);
-      short = subst (λ ns. AreShort ns c.args.image.world.bodies) (sym names) (subst (λ (v : World). AreShort c.in_ok-names.names v.bodies) c.world-3.ensures c.in_ok-are_short.ensures);
+      short = c.requires.short;
     }
 
 pub returns-clause-idle : goal.returns-clause-idle

@@ -1,0 +1,2 @@
+-- Texts of edits.
+pub mod Formed

@@ -1,0 +1,1 @@
+use Rattle.self_debugger.proofs.sessions.Session.open.Goals as goal

@@ -1,0 +1,3 @@
+pub mod Worths
+pub mod Spelled
+pub mod Short
